@@ -1,0 +1,160 @@
+-- What a call answers and leaves, on the way through its judgements. Assumes nothing.
+use mathlib.Core.Path.{_≡_, refl, sym, ap, _∙_}
+use mathlib.Core.Bool.{Bool, true, false, cond, _||_}
+use mathlib.Core.List.{List, [], _∷_, _++_}
+use Prim.Native.Nat.{ℕ, zero, suc, _+_, _≤_, _<_, min}
+use native.Mathlib.Omega.{arith}
+use lib.Dec.{ltb, eqb}
+use lib.ListN.{length}
+use borrow.Author.Tests.{lt-ltb, le-ltb, ltb-false, eq-eqb, ne-eqb}
+use lib.Ieee.{Float}
+use Rattle.lists.specs.Calls.{lowest, both, lower, none, cleared, Scratch, scratch, narrow, wiped, Lent, outputs, worked, leaves}
+use Rattle.lists.proofs.Bools.{or-false, eq-or-ne}
+
+-- ---- `lower`, case by case
+pub lower-right : (a b : ℕ) → a ≡ 0 → b ≡ lower a b
+unfolding lower
+lower-right a b h = rw (eq-eqb a 0 h)
+
+pub lower-left : (a b : ℕ) → (a ≡ 0 → ⊥) → b ≡ 0 → a ≡ lower a b
+unfolding lower
+lower-left a b g h = rw (ne-eqb a 0 g, eq-eqb b 0 h)
+
+pub lower-least : (a b r : ℕ) → (a ≡ 0 → ⊥) → (b ≡ 0 → ⊥) → r ≡ min a b → r ≡ lower a b
+unfolding lower
+lower-least a b r g h e = rw (ne-eqb a 0 g, ne-eqb b 0 h) e
+
+-- ---- two operands judged together: the lower of the two answers
+-- the numbers are k, k + 1, ..
+abbrev pub From : ℕ → List (ℕ × Bool) → Type 0
+From k [] = 0 ≤ 0
+From k (c ∷ cs) = (c .0 ≡ k) × From (suc k) cs
+
+-- an answer is 0, or not below the first number
+from-least : (k : ℕ) (cs : List (ℕ × Bool)) → From k cs → (lowest cs ≡ 0 → ⊥) → k ≤ lowest cs
+from-least k [] g h = absurd (h refl)
+from-least k (c ∷ cs) g h = go (c .1) h (from-least (suc k) cs (g .1))
+  where
+    go : (b : Bool) → (cond b (c .0) (lowest cs) ≡ 0 → ⊥) → ((lowest cs ≡ 0 → ⊥) → suc k ≤ lowest cs) → k ≤ cond b (c .0) (lowest cs)
+    go true h f = omega (arith, g .0)
+    go false h f = omega (arith, f h)
+
+lower-first : (k r : ℕ) → 0 < k → (r ≡ 0 → ⊥) → k ≤ r → k ≡ lower k r
+lower-first k r h g l = lower-least k r k (λ e. omega arith) g (omega arith)
+
+lower-swap : (k r : ℕ) → 0 < k → (r ≡ 0 → ⊥) → k ≤ r → k ≡ lower r k
+lower-swap k r h g l = lower-least r k k g (λ e. omega arith) (omega arith)
+
+pub lowest-both : (k : ℕ) (cs ds : List (ℕ × Bool)) → 0 < k → From k cs → From k ds → lower (lowest cs) (lowest ds) ≡ lowest (both cs ds)
+unfolding both
+lowest-both k [] ds h f g = sym (lower-right 0 (lowest ds) refl)
+lowest-both k (c ∷ cs) [] h f g = go (lowest (c ∷ cs))
+  where
+    go : (r : ℕ) → lower r 0 ≡ r
+    go zero = sym (lower-right 0 0 refl)
+    go (suc r) = sym (lower-left (suc r) 0 (λ e. omega arith) refl)
+lowest-both k (c ∷ cs) (d ∷ ds) h f g = go (c .1) (d .1) (lowest-both (suc k) cs ds (omega arith) (f .1) (g .1))
+  where
+    one : (r : ℕ) → ((r ≡ 0 → ⊥) → suc k ≤ r) → lower k r ≡ k
+    one zero s = sym (lower-left k 0 (λ e. omega arith) refl)
+    one (suc r) s = sym (lower-first k (suc r) h (λ e. omega arith) (omega (arith, s (λ e. omega arith))))
+
+    two : (r : ℕ) → ((r ≡ 0 → ⊥) → suc k ≤ r) → lower r k ≡ k
+    two zero s = sym (lower-right 0 k refl)
+    two (suc r) s = sym (lower-swap k (suc r) h (λ e. omega arith) (omega (arith, s (λ e. omega arith))))
+
+    go : (a b : Bool) → lower (lowest cs) (lowest ds) ≡ lowest (both cs ds) → lower (cond a (c .0) (lowest cs)) (cond b (d .0) (lowest ds)) ≡ cond (a || b) (c .0) (lowest (both cs ds))
+    go true true e = rw (f .0, g .0) (sym (lower-least k k k (λ e. omega arith) (λ e. omega arith) (omega arith)))
+    go true false e = rw (f .0) (one (lowest ds) (from-least (suc k) ds (g .1)))
+    go false true e = rw (f .0, g .0) (two (lowest cs) (from-least (suc k) cs (f .1)))
+    go false false e = e
+
+-- ---- numbers from 1 to 6: by these nothing lent changes
+abbrev pub Early : List (ℕ × Bool) → Type 0
+Early [] = 0 ≤ 0
+Early (c ∷ cs) = (0 < c .0) × (c .0 < 7) × Early cs
+
+-- the first of the judgements refuses, or it passes on to the others
+pub first : (cs ds : List (ℕ × Bool)) {r : ℕ} → r ≡ lowest cs → (r ≡ 0 → ⊥) → r ≡ lowest (cs ++ ds)
+first [] ds e h = absurd (h e)
+first (c ∷ cs) ds {r = r} e h = go (c .1) e (λ f. first cs ds f h)
+  where
+    go : (b : Bool) → r ≡ cond b (c .0) (lowest cs) → (r ≡ lowest cs → r ≡ lowest (cs ++ ds)) → r ≡ cond b (c .0) (lowest (cs ++ ds))
+    go true e f = e
+    go false e f = f e
+
+pub then : (cs ds : List (ℕ × Bool)) {r : ℕ} → Early cs → r ≡ lowest cs → r ≡ 0 → lowest ds ≡ lowest (cs ++ ds)
+then [] ds g e h = refl
+then (c ∷ cs) ds {r = r} g e h = go (c .1) e (λ f. then cs ds (g .2) f h)
+  where
+    go : (b : Bool) → r ≡ cond b (c .0) (lowest cs) → (r ≡ lowest cs → lowest ds ≡ lowest (cs ++ ds)) → lowest ds ≡ cond b (c .0) (lowest (cs ++ ds))
+    go true e f = absurd (omega (arith, g .0))
+    go false e f = f e
+
+below-7 : (cs : List (ℕ × Bool)) → Early cs → lowest cs < 7
+below-7 [] g = omega arith
+below-7 (c ∷ cs) g = go (c .1) (below-7 cs (g .2))
+  where
+    go : (b : Bool) → lowest cs < 7 → cond b (c .0) (lowest cs) < 7
+    go true l = g .1
+    go false l = l
+
+-- ---- what each number leaves
+-- by 1 to 6 all is as it was
+pub kept : {Out : Type 0} (r n : ℕ) (w : Out) (old : Lent Out) → 0 < r → r < 7 → old ≡ leaves r n w old
+unfolding leaves outputs worked
+kept r n w old h g = rw (ne-eqb r 0 (λ e. omega arith), ne-eqb r 11 (λ e. omega arith), lt-ltb 0 r h, lt-ltb r 7 g)
+
+pub early : {Out : Type 0} (cs : List (ℕ × Bool)) → Early cs → {r : ℕ} (n : ℕ) (w : Out) (old : Lent Out) → r ≡ lowest cs → (r ≡ 0 → ⊥) → old ≡ leaves r n w old
+early cs g {r = zero} n w old e h = absurd (h refl)
+early cs g {r = suc r} n w old e h = kept (suc r) n w old (omega arith) (omega (arith, below-7 cs g))
+
+-- by 7 to 10 the outputs are as they were, by 0 and 11 what is written; the scratch is cleared
+pub late : {Out : Type 0} (r n : ℕ) (w : Out) (old : Lent Out) {s : Scratch} → 7 ≤ r → r < 11 → s ≡ wiped n (old .work) → _≡_ {A = Lent Out} (record { out = old .out; work = s }) (leaves r n w old)
+unfolding leaves outputs worked
+late r n w old h g e = rw (ne-eqb r 0 (λ e. omega arith), ne-eqb r 11 (λ e. omega arith), lt-ltb 0 r (omega arith), le-ltb r 7 h) (λ k. record { out = old .out; work = e k })
+
+pub done : {Out : Type 0} (n : ℕ) (w : Out) (old : Lent Out) {o : Out} {s : Scratch} → o ≡ w → s ≡ wiped n (old .work) → _≡_ {A = Lent Out} (record { out = o; work = s }) (leaves 0 n w old)
+unfolding leaves outputs worked
+done n w old f e = λ k. record { out = f k; work = e k }
+
+pub blanked : {Out : Type 0} (n : ℕ) (w : Out) (old : Lent Out) {o : Out} {s : Scratch} → o ≡ w → s ≡ wiped n (old .work) → _≡_ {A = Lent Out} (record { out = o; work = s }) (leaves 11 n w old)
+unfolding leaves outputs worked
+blanked n w old f e = λ k. record { out = f k; work = e k }
+
+-- ---- number 6
+pub record Wide (n : ℕ) (s : Scratch) : Type 0 where
+  pub in-w1 : n ≤ length (s .w1)
+  pub in-w2 : n ≤ length (s .w2)
+  pub in-w3 : n ≤ length (s .w3)
+  pub in-x : n ≤ length (s .x)
+
+pub not-narrow : (n : ℕ) (s : Scratch) → narrow n s ≡ false → Wide n s
+unfolding narrow
+not-narrow n s h =
+    let a = or-false (ltb (length (s .w1)) n || ltb (length (s .w2)) n || ltb (length (s .w3)) n) _ h in
+    let b = or-false (ltb (length (s .w1)) n || ltb (length (s .w2)) n) _ (a .0) in
+    let c = or-false (ltb (length (s .w1)) n) _ (b .0) in
+    record { in-w1 = ltb-false _ _ (c .0); in-w2 = ltb-false _ _ (c .1); in-w3 = ltb-false _ _ (b .1); in-x = ltb-false _ _ (a .1) }
+
+-- `narrow`, by the first slice that is short
+pub narrow-w1 : (n : ℕ) (s : Scratch) → length (s .w1) < n → true ≡ narrow n s
+unfolding narrow
+narrow-w1 n s h = rw (lt-ltb (length (s .w1)) n h)
+
+pub narrow-w2 : (n : ℕ) (s : Scratch) → n ≤ length (s .w1) → length (s .w2) < n → true ≡ narrow n s
+unfolding narrow
+narrow-w2 n s f h = rw (le-ltb (length (s .w1)) n f, lt-ltb (length (s .w2)) n h)
+
+pub narrow-w3 : (n : ℕ) (s : Scratch) → n ≤ length (s .w1) → n ≤ length (s .w2) → length (s .w3) < n → true ≡ narrow n s
+unfolding narrow
+narrow-w3 n s f g h = rw (le-ltb (length (s .w1)) n f, le-ltb (length (s .w2)) n g, lt-ltb (length (s .w3)) n h)
+
+pub narrow-x : (n : ℕ) (s : Scratch) → n ≤ length (s .w1) → n ≤ length (s .w2) → n ≤ length (s .w3) → ltb (length (s .x)) n ≡ narrow n s
+unfolding narrow
+narrow-x n s f g h = rw (le-ltb (length (s .w1)) n f, le-ltb (length (s .w2)) n g, le-ltb (length (s .w3)) n h)
+
+-- each slice cleared
+pub wiped-each : (n : ℕ) (s : Scratch) {w1 w2 w3 : List ℕ} {x : List Float} → w1 ≡ cleared 0 n (s .w1) → w2 ≡ cleared 0 n (s .w2) → w3 ≡ cleared 0 n (s .w3) → x ≡ cleared none n (s .x) → scratch w1 w2 w3 x ≡ wiped n s
+unfolding wiped
+wiped-each n s a b c d = λ k. record { w1 = a k; w2 = b k; w3 = c k; x = d k }

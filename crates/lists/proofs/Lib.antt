@@ -1,0 +1,10 @@
+pub mod Bools
+pub mod Parts
+pub mod Folds
+pub mod Tables
+pub mod Calls
+pub mod Clearing
+pub mod Keys
+pub mod Scattering
+pub mod Summing
+pub mod Order

@@ -1,0 +1,4 @@
+// What every crate stands on: small total functions here, the definitions and laws on lists in specs/ and proofs/.
+pub mod clear;
+pub mod numbers;
+pub mod sums;
