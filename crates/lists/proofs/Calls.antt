@@ -24,6 +24,17 @@ pub lower-least : (a b r : ℕ) → (a ≡ 0 → ⊥) → (b ≡ 0 → ⊥) → 
 unfolding lower
 lower-least a b r g h e = rw (ne-eqb a 0 g, ne-eqb b 0 h) e
 
+-- beside an answer of 0
+pub lower-alone : (a : ℕ) → a ≡ lower a 0
+lower-alone zero = lower-right 0 0 refl
+lower-alone (suc a) = lower-left (suc a) 0 (λ e. omega arith) refl
+
+-- the lower of two is 0 where both are
+pub lower-none : (a b : ℕ) → lower a b ≡ 0 → (a ≡ 0) × (b ≡ 0)
+lower-none zero b h = (refl, lower-right 0 b refl ∙ h)
+lower-none (suc a) zero h = absurd (omega (arith, lower-left (suc a) 0 (λ e. omega arith) refl))
+lower-none (suc a) (suc b) h = absurd (omega (arith, lower-least (suc a) (suc b) (min (suc a) (suc b)) (λ e. omega arith) (λ e. omega arith) refl))
+
 -- ---- two operands judged together: the lower of the two answers
 -- the numbers are k, k + 1, ..
 abbrev pub From : ℕ → List (ℕ × Bool) → Type 0
@@ -48,11 +59,7 @@ lower-swap k r h g l = lower-least r k k g (λ e. omega arith) (omega arith)
 pub lowest-both : (k : ℕ) (cs ds : List (ℕ × Bool)) → 0 < k → From k cs → From k ds → lower (lowest cs) (lowest ds) ≡ lowest (both cs ds)
 unfolding both
 lowest-both k [] ds h f g = sym (lower-right 0 (lowest ds) refl)
-lowest-both k (c ∷ cs) [] h f g = go (lowest (c ∷ cs))
-  where
-    go : (r : ℕ) → lower r 0 ≡ r
-    go zero = sym (lower-right 0 0 refl)
-    go (suc r) = sym (lower-left (suc r) 0 (λ e. omega arith) refl)
+lowest-both k (c ∷ cs) [] h f g = sym (lower-alone (lowest (c ∷ cs)))
 lowest-both k (c ∷ cs) (d ∷ ds) h f g = go (c .1) (d .1) (lowest-both (suc k) cs ds (omega arith) (f .1) (g .1))
   where
     one : (r : ℕ) → ((r ≡ 0 → ⊥) → suc k ≤ r) → lower k r ≡ k

@@ -1,15 +1,16 @@
 -- The folds of specs/Folds.antt, one turn more, and the invariants of the loops that compute them. Assumes nothing.
 use mathlib.Core.Path.{_≡_, refl, sym, ap, _∙_}
-use mathlib.Core.Bool.{Bool, true, false}
+use mathlib.Core.Bool.{Bool, true, false, cond}
 use mathlib.Core.List.{List, [], _∷_}
 use mathlib.Core.Logic.{⊎-elim}
 use Prim.Native.Nat.{ℕ, zero, suc, _+_, _-_, _≤_, _<_}
 use native.Mathlib.Nat.{add-zero, add-suc, eq-or-lt-of-le}
 use native.Mathlib.Numerals.{add-one}
 use native.Mathlib.Omega.{arith}
+use lib.Dec.{eqb}
 use lib.ListN.{length, getD, drop}
 use Rattle.lists.specs.Folds.{every, turns, falls, along, over}
-use Rattle.lists.proofs.Bools.{and-true, not-both}
+use Rattle.lists.proofs.Bools.{and-true, and-none, and-false, not-both}
 use Rattle.lists.proofs.Parts.{left-at, left-none}
 
 -- ---- every
@@ -153,3 +154,28 @@ module _ {A B S : Type 0} (f : A → B → S → S) (l : List A) (m : List B) wh
     where
       nothing : (w : List B) → over f [] w s ≡ s
       nothing w = refl
+
+-- ---- a loop that looks at every number below n and tells by `bad` whether the test failed at one
+pub record Telling (f : ℕ → Bool) (n bad k : ℕ) : Type 0 where
+  pub within : k ≤ n
+  pub is : bad ≡ cond (every k f) 0 1
+
+module _ (f : ℕ → Bool) where
+  pub telling-start : (n : ℕ) → Telling f n 0 0
+  unfolding every
+  telling-start n = record { within = omega arith; is = refl }
+
+  pub telling-holds : {n bad k : ℕ} → Telling f n bad k → k < n → f k ≡ true → Telling f n bad (k + 1)
+  unfolding every
+  telling-holds {k = k} v h e = record { within = omega arith; is = rw (add-one, e, and-none (every k f)) (v .is) }
+
+  pub telling-fails : {n bad k : ℕ} → Telling f n bad k → k < n → f k ≡ false → Telling f n 1 (k + 1)
+  unfolding every
+  telling-fails {k = k} v h e = record { within = omega arith; is = rw (add-one, e, and-false (every k f)) }
+
+  pub telling-done : {n bad k : ℕ} → Telling f n bad k → n ≤ k → eqb bad 0 ≡ every n f
+  telling-done {n = n} {bad = bad} {k = k} v h = let e : k ≡ n = omega (arith, v .within) in rw (v .is, e) (go (every n f))
+    where
+      go : (b : Bool) → eqb (cond b 0 1) 0 ≡ b
+      go true = refl
+      go false = refl

@@ -8,3 +8,4 @@ pub mod Keys
 pub mod Scattering
 pub mod Summing
 pub mod Order
+pub mod Sorting

@@ -3,10 +3,11 @@ use mathlib.Core.Path.{_≡_, refl, sym, ap, _∙_}
 use mathlib.Core.List.{List, [], _∷_, _++_, append-assoc}
 use mathlib.Core.Logic.{⊎-elim}
 use Prim.Native.Nat.{ℕ, zero, suc, _+_, _-_, _≤_, _<_}
+use native.Mathlib.Nat.{zero-add, suc-add}
 use native.Mathlib.Numerals.{add-one}
 use native.Mathlib.Omega.{arith}
 use lib.ListN.{length, take, drop, getD, set, length-append, length-drop, length-take, drop-of-length-le, List·getD-append}
-use lib.Seq.{drop-cons, take-suc-set, length-take-le, getD-take, getD-drop, getD-append-add, ext-getD, set-at}
+use lib.Seq.{drop-cons, take-suc-set, length-take-le, getD-take, getD-drop, getD-append-add, ext-getD, set-at, take-take, take-nil}
 use Rattle.lists.specs.Parts.{part, placed}
 use Rattle.lists.specs.Calls.{onto}
 use Rattle.lists.proofs.Bools.{le-or-lt}
@@ -29,6 +30,18 @@ module _ {A : Type 0} where
 
   pub getD-part : (a b : ℕ) (l : List A) (k : ℕ) (d : A) → k < b - a → getD (part a b l) k d ≡ getD l (a + k) d
   getD-part a b l k d h = getD-take (b - a) (drop a l) k d h ∙ getD-drop a l k d
+
+  drop-take : (a d : ℕ) (l : List A) → drop a (take (a + d) l) ≡ take d (drop a l)
+  drop-take zero d l = rw zero-add
+  drop-take (suc a) d [] = rw suc-add (sym (take-nil d))
+  drop-take (suc a) d (x ∷ l) = rw suc-add (drop-take a d l)
+
+  -- a part lies in every front that reaches over it
+  pub part-take : (a b q : ℕ) (l : List A) → a ≤ b → b ≤ q → part a b (take q l) ≡ part a b l
+  part-take a b q l h g =
+      let e : a + (q - a) ≡ q = omega arith in
+      let s = rw e at (drop-take a (q - a) l) in
+      rw (s, take-take (b - a) (q - a) (drop a l) (omega arith))
 
   -- ---- a part that comes back
   pub length-placed : (a b : ℕ) (l ys : List A) → a ≤ b → b ≤ length l → length ys ≡ b - a → length (placed a b l ys) ≡ length l

@@ -1,0 +1,3 @@
+pub mod Pointers
+pub mod Refusing
+pub mod Validity
