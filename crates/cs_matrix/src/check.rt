@@ -21,15 +21,15 @@ fn pointers_hold(p: &[u32], n: usize) -> bool
     if wide(p[last]) != n {
         return false;
     }
-    let mut bad: u32 = 0;
+    let mut falls: u32 = 0;
     let mut k = 0;
     while k < last {
         if p[k + 1] < p[k] {
-            bad = 1;
+            falls = 1;
         }
         k += 1;
     }
-    bad == 0
+    falls == 0
 }
 
 // Each row is below n.
@@ -131,7 +131,7 @@ pub fn check_vector(n: usize, i: &[u32], v: &[f64]) -> u32
     if i.len() > 4194304 {
         return 1;
     }
-    if i.len() != v.len() {
+    if v.len() != i.len() {
         return 2;
     }
     if !all_below(i, n) {

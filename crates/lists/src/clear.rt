@@ -1,7 +1,5 @@
 // Zeros in the front of a slice, and in the needed part of the scratch slices.
-ghost use mathlib.Core.Bool.{_||_};
 ghost use mathlib.Core.Path.{_≡_};
-ghost use lib.Dec.{ltb};
 ghost use Rattle.lists.specs.Calls.{none, cleared, scratch, wiped, narrow};
 
 // Zeros in the first n places, or in all where there are fewer.
@@ -16,13 +14,13 @@ pub fn clear(n: usize, out: &mut [u32])
 }
 
 // +0.0 in the first n places, or in all where there are fewer.
-pub fn clear_values(n: usize, out: &mut [f64])
-    ensures { λ _. ⌜ now (out .exit) ≡ cleared none n (now (out .entry)) ⌝ }
+pub fn clear_values(n: usize, values: &mut [f64])
+    ensures { λ _. ⌜ now (values .exit) ≡ cleared none n (now (values .entry)) ⌝ }
 {
-    let mut k = 0;
-    while k < n && k < out.len() {
-        out[k] = 0.0;
-        k += 1;
+    let mut at = 0;
+    while at < n && at < values.len() {
+        values[at] = 0.0;
+        at += 1;
     }
 }
 

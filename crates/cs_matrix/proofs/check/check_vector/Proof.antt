@@ -1,3 +1,4 @@
+use mathlib.Core.Path.{sym}
 use Rattle.cs_matrix.proofs.Refusing.{vector-n, vector-entries, vector-2, vector-4, vector-5, vector-0}
 use Rattle.lists.proofs.Bools.{held, failed}
 use borrow.Author.Needs.{needs}
@@ -18,7 +19,7 @@ returns-2 c = vector-entries _ (c .before .if1 .left) (c .if2 .taken)
 
 -- src/check.rt:135:9
 returns-3 : tie.Need-returns-3
-returns-3 c = vector-2 _ (c .before .before .if1 .left) (c .before .if2 .left) (c .if3 .taken)
+returns-3 c = vector-2 _ (c .before .before .if1 .left) (c .before .if2 .left) (λ e. c .if3 .taken (sym e))
 
 -- src/check.rt:137:9
 all-below-requires : tie.Need-all-below-requires
@@ -26,7 +27,7 @@ all-below-requires c κs = search needs
 
 -- src/check.rt:138:9
 returns-4 : tie.Need-returns-4
-returns-4 c = vector-4 _ (c .before .before .before .before .if1 .left) (c .before .before .before .if2 .left) (c .before .before .if3 .left) (failed (c .before .all-below .ensures) (c .if4 .taken))
+returns-4 c = vector-4 _ (c .before .before .before .before .if1 .left) (c .before .before .before .if2 .left) (sym (c .before .before .if3 .left)) (failed (c .before .all-below .ensures) (c .if4 .taken))
 
 -- src/check.rt:140:9
 column-rises-requires : tie.Need-column-rises-requires
@@ -34,11 +35,11 @@ column-rises-requires c κs = search needs
 
 -- src/check.rt:141:9
 returns-5 : tie.Need-returns-5
-returns-5 c = vector-5 _ (c .before .before .before .before .before .before .if1 .left) (c .before .before .before .before .before .if2 .left) (c .before .before .before .before .if3 .left) (held (c .before .before .before .all-below .ensures) (c .before .before .if4 .left)) (failed (c .before .column-rises .ensures) (c .if5 .taken))
+returns-5 c = vector-5 _ (c .before .before .before .before .before .before .if1 .left) (c .before .before .before .before .before .if2 .left) (sym (c .before .before .before .before .if3 .left)) (held (c .before .before .before .all-below .ensures) (c .before .before .if4 .left)) (failed (c .before .column-rises .ensures) (c .if5 .taken))
 
 -- src/check.rt:125:1
 returns-6 : tie.Need-returns-6
-returns-6 c = vector-0 _ (c .before .before .before .before .before .before .if1 .left) (c .before .before .before .before .before .if2 .left) (c .before .before .before .before .if3 .left) (held (c .before .before .before .all-below .ensures) (c .before .before .if4 .left)) (held (c .before .column-rises .ensures) (c .if5 .left))
+returns-6 c = vector-0 _ (c .before .before .before .before .before .before .if1 .left) (c .before .before .before .before .before .if2 .left) (sym (c .before .before .before .before .if3 .left)) (held (c .before .before .before .all-below .ensures) (c .before .before .if4 .left)) (held (c .before .column-rises .ensures) (c .if5 .left))
 
 pub check-vector-spec : {M : Type 1} → statement M
 check-vector-spec =

@@ -12,10 +12,10 @@ use Rattle.cs_matrix.proofs.check.pointers_hold.Lts as lts
 use Rattle.lists.proofs.numbers.wide.Reads as wide-reads
 
 abbrev Inv-loop : tie.InvT-loop
-Inv-loop p n last bad₀ k₀ bad k = Telling (climbsAt p) last bad k
+Inv-loop p n last falls₀ k₀ falls k = Telling (climbsAt p) last falls k
 
 abbrev μ-loop : tie.MeasureT-loop
-μ-loop p n last bad₀ k₀ bad k = last - k
+μ-loop p n last falls₀ k₀ falls k = last - k
 
 -- src/check.rt:17:8
 shared-slice-read-if1 : tie.Need-shared-slice-read-if1 Inv-loop μ-loop

@@ -11,22 +11,22 @@ use Rattle.lists.proofs.clear.clear_values.Statement.{statement}
 use Rattle.lists.proofs.clear.clear_values.Tie as tie
 
 abbrev Inv-loop : tie.InvT-loop
-Inv-loop n out₀ k₀ out k = Clearing none n out₀ out k
+Inv-loop n values₀ at₀ values at = Clearing none n values₀ values at
 
 abbrev μ-loop : tie.MeasureT-loop
-μ-loop n out₀ k₀ out k = n - k
+μ-loop n values₀ at₀ values at = n - at
 
 loop-holds : tie.Need-loop-holds Inv-loop μ-loop
 loop-holds c = clearing-start _ _ _
 
-mul-out : tie.Need-mul-out Inv-loop μ-loop
-mul-out c = let h : c .before .before .loop .k < length (c .before .before .loop .out) = ltb-true _ _ (c .if1 .taken) in omega arith
+mul-values : tie.Need-mul-values Inv-loop μ-loop
+mul-values c = let h : c .before .before .loop .at < length (c .before .before .loop .values) = ltb-true _ _ (c .if1 .taken) in omega arith
 
-slice-write-out : tie.Need-slice-write-out Inv-loop μ-loop
-slice-write-out c = ltb-true _ _ (c .if1 .taken)
+slice-write-values : tie.Need-slice-write-values Inv-loop μ-loop
+slice-write-values c = ltb-true _ _ (c .if1 .taken)
 
-add-k : tie.Need-add-k Inv-loop μ-loop
-add-k c = search needs
+add-at : tie.Need-add-at Inv-loop μ-loop
+add-at c = search needs
 
 loop-less : tie.Need-loop-less Inv-loop μ-loop
 loop-less c = search needs
@@ -47,4 +47,4 @@ returns-2 : tie.Need-returns-2 Inv-loop μ-loop
 returns-2 c = clearing-done _ (c .before .loop .inv) (inl (c .loop-test .left))
 
 pub clear-values-spec : {M : Type 1} → statement M
-clear-values-spec = tie.close (tie.spec Inv-loop μ-loop loop-holds mul-out slice-write-out add-k loop-less loop-again same-length returns same-length-2 returns-2)
+clear-values-spec = tie.close (tie.spec Inv-loop μ-loop loop-holds mul-values slice-write-values add-at loop-less loop-again same-length returns same-length-2 returns-2)

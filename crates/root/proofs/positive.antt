@@ -1,0 +1,2 @@
+-- The laws of the shift by leading zeros.
+mod Scale

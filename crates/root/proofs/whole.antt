@@ -1,0 +1,2 @@
+-- The laws of the engine, which only its own proof names.
+mod Turns
