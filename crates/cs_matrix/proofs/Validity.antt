@@ -1,18 +1,17 @@
 -- A number of 0 says that the pattern, the matrix or the vector is valid, and a valid one has the number 0. Assumes nothing.
-use mathlib.Core.Path.{_≡_, refl, sym, ap, _∙_}
-use mathlib.Core.Bool.{Bool, true, false, not, _||_}
-use mathlib.Core.List.{List, [], _∷_}
-use Prim.Native.Nat.{ℕ, _+_, _≤_, _<_}
+use mathlib.Core.Path.{_≡_, sym, _∙_}
+use mathlib.Core.Bool.{true, not, _||_}
+use Prim.Native.Nat.{_+_}
 use native.Mathlib.Omega.{arith}
-use lib.Dec.{ltb, leb, eqb}
+use lib.Dec.{ltb, eqb}
 use lib.ListN.{length, getD}
 use borrow.Author.Tests.{ltb-true, ltb-false, eqb-true, lt-ltb, le-leb}
-use Rattle.lists.specs.Calls.{lowest, both, disagree, lower}
+use Rattle.lists.specs.Calls.{lowest, both, disagree}
 use Rattle.lists.specs.Order.{rises, allBelow}
 use Rattle.lists.proofs.Bools.{passed-over, not-holds, or-false}
 use Rattle.lists.proofs.Calls.{Early, lowest-both, lower-none}
 use Rattle.lists.proofs.Folds.{every-at, every-all}
-use Rattle.cs_matrix.specs.Matrix.{Pattern, Matrix, Vector, tooLarge, pointers, columnsRise, judgedPattern, judged, judgedVector, Pointers, ValidPattern, Valid, ValidVector}
+use Rattle.cs_matrix.specs.Matrix.{Pattern, Matrix, Vector, tooLarge, pointers, columnsRise, judgedPattern, judged, judgedVector, ValidPattern, Valid, ValidVector}
 use Rattle.cs_matrix.proofs.Pointers.{pointers-mean, pointers-rest}
 use Rattle.cs_matrix.proofs.Refusing.{from-pattern, from-disagree, not-refused}
 

@@ -7,7 +7,7 @@ use lib.Ieee.{Float}
 use Rattle.lists.specs.Calls.{lowest, both}
 use Rattle.lists.specs.Folds.{every}
 use Rattle.lists.specs.Order.{rises, allBelow}
-use Rattle.cs_matrix.specs.Matrix.{Matrix, matrix, Vector, vector, tooLarge, pointers, column, columnsRise, judgedPattern, judged, judgedVector}
+use Rattle.cs_matrix.specs.Matrix.{Matrix, matrix, tooLarge, pointers, column, columnsRise, judgedPattern, judged}
 
 module _ (a b c d e f g h j k : Float) where
   abbrev values : List Float

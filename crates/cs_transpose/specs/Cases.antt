@@ -2,8 +2,8 @@
 use mathlib.Core.List.{List, [], _∷_}
 use mathlib.Core.Path.{_≡_, refl}
 use Prim.Native.Nat.{ℕ}
-use lib.Ieee.{Float, ofBits}
-use Rattle.lists.specs.Calls.{Lent, lent, scratch, none, lowest, both, narrow, cleared, wiped, onto, outputs, worked, leaves}
+use lib.Ieee.{Float}
+use Rattle.lists.specs.Calls.{Lent, lent, scratch, none, both, narrow, cleared, wiped, onto, outputs, worked, leaves}
 use Rattle.lists.specs.Folds.{every}
 use Rattle.lists.specs.Keys.{ofKey, byKey}
 use Rattle.lists.specs.Order.{rises, allBelow}

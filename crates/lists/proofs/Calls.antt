@@ -1,15 +1,15 @@
 -- What a call answers and leaves, on the way through its judgements. Assumes nothing.
-use mathlib.Core.Path.{_≡_, refl, sym, ap, _∙_}
+use mathlib.Core.Path.{_≡_, refl, sym, _∙_}
 use mathlib.Core.Bool.{Bool, true, false, cond, _||_}
 use mathlib.Core.List.{List, [], _∷_, _++_}
 use Prim.Native.Nat.{ℕ, zero, suc, _+_, _≤_, _<_, min}
 use native.Mathlib.Omega.{arith}
-use lib.Dec.{ltb, eqb}
+use lib.Dec.{ltb}
 use lib.ListN.{length}
 use borrow.Author.Tests.{lt-ltb, le-ltb, ltb-false, eq-eqb, ne-eqb}
 use lib.Ieee.{Float}
 use Rattle.lists.specs.Calls.{lowest, both, lower, none, cleared, Scratch, scratch, narrow, wiped, Lent, outputs, worked, leaves}
-use Rattle.lists.proofs.Bools.{or-false, eq-or-ne}
+use Rattle.lists.proofs.Bools.{or-false}
 
 -- ---- `lower`, case by case
 pub lower-right : (a b : ℕ) → a ≡ 0 → b ≡ lower a b

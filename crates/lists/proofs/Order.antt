@@ -1,5 +1,5 @@
 -- Strictly rising lists, each number once, and what the tests say. Assumes nothing.
-use mathlib.Core.Path.{_≡_, refl, sym, ap, _∙_}
+use mathlib.Core.Path.{_≡_, refl, sym}
 use mathlib.Core.Bool.{Bool, true, false, _||_, true≢false}
 use mathlib.Core.List.{List, [], _∷_, List·Memᴰ, List·Memᴰ·head, List·Memᴰ·tail, List·Memᴰ·not-nil, List·Memᴰ·cases-cons}
 use mathlib.Core.Logic.{_⊎_, ⊎-elim}
@@ -10,8 +10,7 @@ use native.Mathlib.Omega.{arith}
 use lib.Dec.{ltb, eqb}
 use lib.ListN.{length, getD}
 use borrow.Author.Tests.{lt-ltb, ltb-true, eq-eqb, eqb-true}
-use Rattle.lists.specs.Folds.{every}
-use Rattle.lists.specs.Order.{rises, allBelow, lists, Rising, flat, step, Once, no-more, one-more}
+use Rattle.lists.specs.Order.{rises, lists, Rising, flat, step, Once, no-more, one-more}
 use Rattle.lists.proofs.Folds.{every-at, every-all}
 
 -- rows that rise are below each later one

@@ -1,12 +1,12 @@
 -- A list by its parts: what is left of it at an index, the part between two places, a front that was written. Assumes nothing.
-use mathlib.Core.Path.{_≡_, refl, sym, ap, _∙_}
+use mathlib.Core.Path.{_≡_, refl, sym, _∙_}
 use mathlib.Core.List.{List, [], _∷_, _++_, append-assoc}
 use mathlib.Core.Logic.{⊎-elim}
 use Prim.Native.Nat.{ℕ, zero, suc, _+_, _-_, _≤_, _<_}
 use native.Mathlib.Nat.{zero-add, suc-add}
 use native.Mathlib.Numerals.{add-one}
 use native.Mathlib.Omega.{arith}
-use lib.ListN.{length, take, drop, getD, set, length-append, length-drop, length-take, drop-of-length-le, List·getD-append}
+use lib.ListN.{length, take, drop, getD, set, length-append, length-drop, drop-of-length-le, List·getD-append}
 use lib.Seq.{drop-cons, take-suc-set, length-take-le, getD-take, getD-drop, getD-append-add, ext-getD, set-at, take-take, take-nil}
 use Rattle.lists.specs.Parts.{part, placed}
 use Rattle.lists.specs.Calls.{onto}

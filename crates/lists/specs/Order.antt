@@ -1,6 +1,6 @@
 -- Lists of numbers: strictly rising, each number once, and whether a number is listed. `rises` and `lists` are the tests that
 -- definitions compute with, `Rising` and `Once` the facts that proofs pass on. Assumes nothing.
-use mathlib.Core.Bool.{Bool, true, false, _||_}
+use mathlib.Core.Bool.{Bool, false, _||_}
 use mathlib.Core.List.{List, [], _∷_, List·Memᴰ}
 use Prim.Native.Nat.{ℕ, suc, _+_, _-_, _≤_}
 use lib.Dec.{ltb, eqb}

@@ -1,7 +1,7 @@
 -- `root::root` meets its contract: what the bits of the answer stand for. Assumes nothing.
-use mathlib.Core.Path.{_≡_, sym, ap, subst, _∙_}
+use mathlib.Core.Path.{sym, ap, subst, _∙_}
 use lib.Dec.{T}
-use lib.Ieee.{binary64, ofBits, fits}
+use lib.Ieee.{binary64, fits}
 use borrow.Author.Needs.{needs}
 use Rattle.root.specs.Root.{rootBits}
 use Rattle.root.proofs.Patterns.{answers-value, from-bits}

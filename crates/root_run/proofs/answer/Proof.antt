@@ -1,8 +1,8 @@
 -- `root_run::answer` meets its contract: the three calls, one after the other. Assumes nothing.
 use mathlib.Core.Path.{_∙_, ap}
+use borrow.Author.Needs.{needs}
 use Rattle.root.specs.Root.{rootBits}
 use Rattle.root_run.specs.Bytes.{bytes}
-use borrow.Author.Needs.{needs}
 use Rattle.root_run.proofs.answer.Statement.{statement}
 use Rattle.root_run.proofs.answer.Tie as tie
 

@@ -1,7 +1,7 @@
 -- `root_run::put_number` meets its contract: each turn keeps `Written` of `Bytes.antt`. Assumes nothing.
 use Prim.Native.Nat.{_-_}
-use Rattle.root_run.proofs.Bytes.{Written, write-start, write-turn, write-done}
 use borrow.Author.Needs.{needs}
+use Rattle.root_run.proofs.Bytes.{Written, write-start, write-turn, write-done}
 use Rattle.root_run.proofs.put_number.Statement.{statement}
 use Rattle.root_run.proofs.put_number.Tie as tie
 

@@ -1,7 +1,7 @@
 -- `root_run::take_number` meets its contract: each turn keeps `Read` of `Bytes.antt`. Assumes nothing.
 use native.Mathlib.Omega.{arith}
-use Rattle.root_run.proofs.Bytes.{Read, read-start, room, read-turn, read-done}
 use borrow.Author.Needs.{needs}
+use Rattle.root_run.proofs.Bytes.{Read, read-start, room, read-turn, read-done}
 use Rattle.root_run.proofs.take_number.Statement.{statement}
 use Rattle.root_run.proofs.take_number.Tie as tie
 

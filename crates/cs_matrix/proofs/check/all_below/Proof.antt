@@ -1,15 +1,14 @@
-use Rattle.lists.specs.Order.{allBelow}
-use borrow.Author.Tests.{lt-ltb, le-ltb}
+-- `all_below`: every row is looked at, and `bad` tells. Assumes nothing.
 use mathlib.Core.Logic.{⊎-elim}
-use Rattle.lists.proofs.Folds.{Telling, telling-start, telling-holds, telling-fails, telling-done}
 use Prim.Native.Nat.{_-_}
 use lib.ListN.{length, getD}
 use lib.Dec.{ltb}
+use borrow.Author.Tests.{lt-ltb, le-ltb}
 use borrow.Author.Needs.{needs}
+use Rattle.lists.specs.Order.{allBelow}
+use Rattle.lists.proofs.Folds.{Telling, telling-start, telling-holds, telling-fails, telling-done}
 use Rattle.cs_matrix.proofs.check.all_below.Statement.{statement}
 use Rattle.cs_matrix.proofs.check.all_below.Tie as tie
-use Rattle.cs_matrix.proofs.check.all_below.Reads as reads
-use Rattle.cs_matrix.proofs.check.all_below.Lts as lts
 
 abbrev Inv-loop : tie.InvT-loop
 Inv-loop i n limit bad₀ k₀ bad k = Telling (λ q. ltb (getD i q 0) n) (length i) bad k
@@ -17,38 +16,30 @@ Inv-loop i n limit bad₀ k₀ bad k = Telling (λ q. ltb (getD i q 0) n) (lengt
 abbrev μ-loop : tie.MeasureT-loop
 μ-loop i n limit bad₀ k₀ bad k = length i - k
 
--- src/check.rt:40:17
 cast-limit : tie.Need-cast-limit Inv-loop μ-loop
 cast-limit c = search needs
 
--- src/check.rt:43:5
 loop-holds : tie.Need-loop-holds Inv-loop μ-loop
 loop-holds c = telling-start _ _
 
--- src/check.rt:44:12
 mul-if1 : tie.Need-mul-if1 Inv-loop μ-loop
 mul-if1 c = search needs
 
--- src/check.rt:44:12
 shared-slice-read-if1 : tie.Need-shared-slice-read-if1 Inv-loop μ-loop
 shared-slice-read-if1 c = search needs
 
--- src/check.rt:47:9
 add-k : tie.Need-add-k Inv-loop μ-loop
 add-k c = search needs
 
--- src/check.rt:43:5
 loop-less : tie.Need-loop-less Inv-loop μ-loop
 loop-less c = search needs
 
--- src/check.rt:43:5
 loop-again : tie.Need-loop-again Inv-loop μ-loop
 loop-again c = ⊎-elim
     (λ t. rw (t .1) (telling-fails _ (c .before .before .before .loop .inv) (c .before .before .loop-test .taken) (le-ltb _ _ (t .0 .taken))))
     (λ t. rw (t .1) (telling-holds _ (c .before .before .before .loop .inv) (c .before .before .loop-test .taken) (lt-ltb _ _ (t .0 .left))))
     (c .if1 .came)
 
--- src/check.rt:36:1
 returns : tie.Need-returns Inv-loop μ-loop
 unfolding allBelow
 returns c = telling-done _ (c .before .loop .inv) (c .loop-test .left)

@@ -1,60 +1,44 @@
+-- `check_pattern`: each number from the tests before it. Assumes nothing.
+use borrow.Author.Needs.{needs}
 use Rattle.cs_matrix.proofs.Refusing.{refused-rows, refused-cols, refused-entries, refused-2, refused-3, refused-4, refused-5, not-refused}
 use Rattle.cs_matrix.proofs.Pointers.{pointers-mean}
 use Rattle.lists.proofs.Bools.{held, failed}
-use borrow.Author.Needs.{needs}
 use Rattle.cs_matrix.proofs.check.check_pattern.Statement.{statement}
 use Rattle.cs_matrix.proofs.check.check_pattern.Tie as tie
-use Rattle.cs_matrix.proofs.check.check_pattern.Reads as reads
-use Rattle.cs_matrix.proofs.check.check_pattern.Lts as lts
-use Rattle.cs_matrix.proofs.check.all_below.Reads as all-below-reads
-use Rattle.cs_matrix.proofs.check.columns_rise.Reads as columns-rise-reads
-use Rattle.cs_matrix.proofs.check.pointers_hold.Reads as pointers-hold-reads
 
--- src/check.rt:90:9
 returns : tie.Need-returns
 returns c = refused-rows _ (c .if1 .taken)
 
--- src/check.rt:93:9
 returns-2 : tie.Need-returns-2
 returns-2 c = refused-cols _ (c .before .if1 .left) (c .if2 .taken)
 
--- src/check.rt:96:9
 returns-3 : tie.Need-returns-3
 returns-3 c = refused-entries _ (c .before .before .if1 .left) (c .before .if2 .left) (c .if3 .taken)
 
--- src/check.rt:98:19
 add-if4 : tie.Need-add-if4
 add-if4 c = search needs
 
--- src/check.rt:99:9
 returns-4 : tie.Need-returns-4
 returns-4 c = refused-2 _ (record { rows = c .before .before .before .if1 .left; cols = c .before .before .if2 .left; entries = c .before .if3 .left }) (c .if4 .taken)
 
--- src/check.rt:101:9
 pointers-hold-requires : tie.Need-pointers-hold-requires
 pointers-hold-requires c κs = search needs
 
--- src/check.rt:102:9
 returns-5 : tie.Need-returns-5
 returns-5 c = refused-3 _ (record { rows = c .before .before .before .before .before .if1 .left; cols = c .before .before .before .before .if2 .left; entries = c .before .before .before .if3 .left }) (c .before .before .if4 .left) (failed (c .before .pointers-hold .ensures) (c .if5 .taken))
 
--- src/check.rt:104:9
 all-below-requires : tie.Need-all-below-requires
 all-below-requires c κs = search needs
 
--- src/check.rt:105:9
 returns-6 : tie.Need-returns-6
 returns-6 c = refused-4 _ (record { rows = c .before .before .before .before .before .before .before .if1 .left; cols = c .before .before .before .before .before .before .if2 .left; entries = c .before .before .before .before .before .if3 .left }) (c .before .before .before .before .if4 .left) (held (c .before .before .before .pointers-hold .ensures) (c .before .before .if5 .left)) (failed (c .before .all-below .ensures) (c .if6 .taken))
 
--- src/check.rt:107:9
 columns-rise-requires : tie.Need-columns-rise-requires
 columns-rise-requires c κs = (c .before .before .before .before .if4 .left, pointers-mean _ _ (held (c .before .before .before .pointers-hold .ensures) (c .before .before .if5 .left)))
 
--- src/check.rt:108:9
 returns-7 : tie.Need-returns-7
 returns-7 c = refused-5 _ (record { rows = c .before .before .before .before .before .before .before .before .before .if1 .left; cols = c .before .before .before .before .before .before .before .before .if2 .left; entries = c .before .before .before .before .before .before .before .if3 .left }) (c .before .before .before .before .before .before .if4 .left) (held (c .before .before .before .before .before .pointers-hold .ensures) (c .before .before .before .before .if5 .left)) (held (c .before .before .before .all-below .ensures) (c .before .before .if6 .left)) (failed (c .before .columns-rise .ensures) (c .if7 .taken))
 
--- src/check.rt:86:1
 returns-8 : tie.Need-returns-8
 returns-8 c = not-refused _ (record { rows = c .before .before .before .before .before .before .before .before .before .if1 .left; cols = c .before .before .before .before .before .before .before .before .if2 .left; entries = c .before .before .before .before .before .before .before .if3 .left }) (c .before .before .before .before .before .before .if4 .left) (held (c .before .before .before .before .before .pointers-hold .ensures) (c .before .before .before .before .if5 .left)) (held (c .before .before .before .all-below .ensures) (c .before .before .if6 .left)) (held (c .before .columns-rise .ensures) (c .if7 .left))
 

@@ -1,43 +1,32 @@
+-- `check_vector`: each number from the tests before it. Assumes nothing.
 use mathlib.Core.Path.{sym}
+use borrow.Author.Needs.{needs}
 use Rattle.cs_matrix.proofs.Refusing.{vector-n, vector-entries, vector-2, vector-4, vector-5, vector-0}
 use Rattle.lists.proofs.Bools.{held, failed}
-use borrow.Author.Needs.{needs}
 use Rattle.cs_matrix.proofs.check.check_vector.Statement.{statement}
 use Rattle.cs_matrix.proofs.check.check_vector.Tie as tie
-use Rattle.cs_matrix.proofs.check.check_vector.Reads as reads
-use Rattle.cs_matrix.proofs.check.check_vector.Lts as lts
-use Rattle.cs_matrix.proofs.check.all_below.Reads as all-below-reads
-use Rattle.cs_matrix.proofs.check.column_rises.Reads as column-rises-reads
 
--- src/check.rt:129:9
 returns : tie.Need-returns
 returns c = vector-n _ (c .if1 .taken)
 
--- src/check.rt:132:9
 returns-2 : tie.Need-returns-2
 returns-2 c = vector-entries _ (c .before .if1 .left) (c .if2 .taken)
 
--- src/check.rt:135:9
 returns-3 : tie.Need-returns-3
 returns-3 c = vector-2 _ (c .before .before .if1 .left) (c .before .if2 .left) (λ e. c .if3 .taken (sym e))
 
--- src/check.rt:137:9
 all-below-requires : tie.Need-all-below-requires
 all-below-requires c κs = search needs
 
--- src/check.rt:138:9
 returns-4 : tie.Need-returns-4
 returns-4 c = vector-4 _ (c .before .before .before .before .if1 .left) (c .before .before .before .if2 .left) (sym (c .before .before .if3 .left)) (failed (c .before .all-below .ensures) (c .if4 .taken))
 
--- src/check.rt:140:9
 column-rises-requires : tie.Need-column-rises-requires
 column-rises-requires c κs = search needs
 
--- src/check.rt:141:9
 returns-5 : tie.Need-returns-5
 returns-5 c = vector-5 _ (c .before .before .before .before .before .before .if1 .left) (c .before .before .before .before .before .if2 .left) (sym (c .before .before .before .before .if3 .left)) (held (c .before .before .before .all-below .ensures) (c .before .before .if4 .left)) (failed (c .before .column-rises .ensures) (c .if5 .taken))
 
--- src/check.rt:125:1
 returns-6 : tie.Need-returns-6
 returns-6 c = vector-0 _ (c .before .before .before .before .before .before .if1 .left) (c .before .before .before .before .before .if2 .left) (sym (c .before .before .before .before .if3 .left)) (held (c .before .before .before .all-below .ensures) (c .before .before .if4 .left)) (held (c .before .column-rises .ensures) (c .if5 .left))
 

@@ -1,16 +1,15 @@
-use Rattle.lists.specs.Order.{rises}
-use borrow.Author.Tests.{lt-ltb, le-ltb}
-use native.Mathlib.Omega.{arith}
+-- `column_rises`: every pair of neighbours is looked at, and `bad` tells. Assumes nothing.
 use mathlib.Core.Logic.{⊎-elim}
-use Rattle.lists.proofs.Folds.{Telling, telling-start, telling-holds, telling-fails, telling-done}
 use Prim.Native.Nat.{_+_, _-_}
+use native.Mathlib.Omega.{arith}
 use lib.ListN.{length, getD}
 use lib.Dec.{ltb}
+use borrow.Author.Tests.{lt-ltb, le-ltb}
 use borrow.Author.Needs.{needs}
+use Rattle.lists.specs.Order.{rises}
+use Rattle.lists.proofs.Folds.{Telling, telling-start, telling-holds, telling-fails, telling-done}
 use Rattle.cs_matrix.proofs.check.column_rises.Statement.{statement}
 use Rattle.cs_matrix.proofs.check.column_rises.Tie as tie
-use Rattle.cs_matrix.proofs.check.column_rises.Reads as reads
-use Rattle.cs_matrix.proofs.check.column_rises.Lts as lts
 
 abbrev Inv-loop : tie.InvT-loop
 Inv-loop rows bad₀ k₀ bad k = Telling (λ q. ltb (getD rows q 0) (getD rows (q + 1) 0)) (length rows - 1) bad k
@@ -18,50 +17,39 @@ Inv-loop rows bad₀ k₀ bad k = Telling (λ q. ltb (getD rows q 0) (getD rows 
 abbrev μ-loop : tie.MeasureT-loop
 μ-loop rows bad₀ k₀ bad k = length rows - k
 
--- src/check.rt:58:5
 loop-holds : tie.Need-loop-holds Inv-loop μ-loop
 loop-holds c = telling-start _ _
 
--- src/check.rt:58:11
 add-loop : tie.Need-add-loop Inv-loop μ-loop
 add-loop c = search needs
 
--- src/check.rt:59:12
 mul-if1 : tie.Need-mul-if1 Inv-loop μ-loop
 mul-if1 c = search needs
 
--- src/check.rt:59:12
 shared-slice-read-if1 : tie.Need-shared-slice-read-if1 Inv-loop μ-loop
 shared-slice-read-if1 c = search needs
 
--- src/check.rt:59:28
 add-if1 : tie.Need-add-if1 Inv-loop μ-loop
 add-if1 c = search needs
 
--- src/check.rt:59:23
 mul-if1-2 : tie.Need-mul-if1-2 Inv-loop μ-loop
 mul-if1-2 c = search needs
 
--- src/check.rt:59:23
 shared-slice-read-if1-2 : tie.Need-shared-slice-read-if1-2 Inv-loop μ-loop
 shared-slice-read-if1-2 c = search needs
 
--- src/check.rt:62:9
 add-k : tie.Need-add-k Inv-loop μ-loop
 add-k c = search needs
 
--- src/check.rt:58:5
 loop-less : tie.Need-loop-less Inv-loop μ-loop
 loop-less c = search needs
 
--- src/check.rt:58:5
 loop-again : tie.Need-loop-again Inv-loop μ-loop
 loop-again c = ⊎-elim
     (λ t. rw (t .1) (telling-fails _ (c .before .before .before .before .loop .inv) (omega arith) (le-ltb _ _ (t .0 .taken))))
     (λ t. rw (t .1) (telling-holds _ (c .before .before .before .before .loop .inv) (omega arith) (lt-ltb _ _ (t .0 .left))))
     (c .if1 .came)
 
--- src/check.rt:53:1
 returns : tie.Need-returns Inv-loop μ-loop
 unfolding rises
 returns c = telling-done _ (c .before .loop .inv) (omega arith)

@@ -1,17 +1,14 @@
-use Rattle.lists.proofs.Bools.{held, failed}
+-- `columns_rise`: every column is looked at, and `bad` tells. Assumes nothing.
 use mathlib.Core.Logic.{⊎-elim}
-use Rattle.lists.proofs.Folds.{Telling, telling-start, telling-holds, telling-fails, telling-done}
-use Rattle.lists.specs.Order.{rises}
-use Rattle.cs_matrix.proofs.Pointers.{Between, between, column-is}
-use Rattle.cs_matrix.specs.Matrix.{column, columnsRise}
 use Prim.Native.Nat.{_-_}
 use borrow.Author.Needs.{needs}
+use Rattle.lists.proofs.Bools.{held, failed}
+use Rattle.lists.proofs.Folds.{Telling, telling-start, telling-holds, telling-fails, telling-done}
+use Rattle.lists.specs.Order.{rises}
+use Rattle.cs_matrix.proofs.Pointers.{between, column-is}
+use Rattle.cs_matrix.specs.Matrix.{column, columnsRise}
 use Rattle.cs_matrix.proofs.check.columns_rise.Statement.{statement}
 use Rattle.cs_matrix.proofs.check.columns_rise.Tie as tie
-use Rattle.cs_matrix.proofs.check.columns_rise.Reads as reads
-use Rattle.cs_matrix.proofs.check.columns_rise.Lts as lts
-use Rattle.cs_matrix.proofs.check.column_rises.Reads as column-rises-reads
-use Rattle.lists.proofs.numbers.wide.Reads as wide-reads
 
 abbrev Inv-loop : tie.InvT-loop
 Inv-loop nrows ncols p i bad₀ j₀ bad j = Telling (λ q. rises (column p q i)) ncols bad j
@@ -19,67 +16,51 @@ Inv-loop nrows ncols p i bad₀ j₀ bad j = Telling (λ q. rises (column p q i)
 abbrev μ-loop : tie.MeasureT-loop
 μ-loop nrows ncols p i bad₀ j₀ bad j = ncols - j
 
--- src/check.rt:74:5
 loop-holds : tie.Need-loop-holds Inv-loop μ-loop
 loop-holds c = telling-start _ _
 
--- src/check.rt:75:22
 mul-wide : tie.Need-mul-wide Inv-loop μ-loop
 mul-wide c = search needs
 
--- src/check.rt:75:22
 shared-slice-read-wide : tie.Need-shared-slice-read-wide Inv-loop μ-loop
 shared-slice-read-wide c = search needs
 
--- src/check.rt:75:13
 wide-requires : tie.Need-wide-requires Inv-loop μ-loop
 wide-requires c κs = search needs
 
--- src/check.rt:76:24
 add-wide : tie.Need-add-wide Inv-loop μ-loop
 add-wide c = search needs
 
--- src/check.rt:76:22
 mul-wide-2 : tie.Need-mul-wide-2 Inv-loop μ-loop
 mul-wide-2 c = search needs
 
--- src/check.rt:76:22
 shared-slice-read-wide-2 : tie.Need-shared-slice-read-wide-2 Inv-loop μ-loop
 shared-slice-read-wide-2 c = search needs
 
--- src/check.rt:76:13
 wide-requires-2 : tie.Need-wide-requires-2 Inv-loop μ-loop
 wide-requires-2 c κs = search needs
 
--- src/check.rt:77:26
 mul-column-rises : tie.Need-mul-column-rises Inv-loop μ-loop
 mul-column-rises c = search needs
 
--- src/check.rt:77:26
 sub-column-rises : tie.Need-sub-column-rises Inv-loop μ-loop
 sub-column-rises c = (between (c .before .before .before .before .before .before .before .before .pre .1) (c .before .before .before .before .before .before .before .before .pre .0) (c .before .before .before .before .loop-test .taken) (c .before .before .wide .ensures .0) (c .wide2 .ensures .0)) .order
 
--- src/check.rt:77:26
 part-column-rises-start : tie.Need-part-column-rises-start Inv-loop μ-loop
 part-column-rises-start c = (between (c .before .before .before .before .before .before .before .before .pre .1) (c .before .before .before .before .before .before .before .before .pre .0) (c .before .before .before .before .loop-test .taken) (c .before .before .wide .ensures .0) (c .wide2 .ensures .0)) .order
 
--- src/check.rt:77:26
 part-column-rises-end : tie.Need-part-column-rises-end Inv-loop μ-loop
 part-column-rises-end c = (between (c .before .before .before .before .before .before .before .before .pre .1) (c .before .before .before .before .before .before .before .before .pre .0) (c .before .before .before .before .loop-test .taken) (c .before .before .wide .ensures .0) (c .wide2 .ensures .0)) .inside
 
--- src/check.rt:77:13
 column-rises-requires : tie.Need-column-rises-requires Inv-loop μ-loop
 column-rises-requires c κs = search needs
 
--- src/check.rt:80:9
 add-j : tie.Need-add-j Inv-loop μ-loop
 add-j c = search needs
 
--- src/check.rt:74:5
 loop-less : tie.Need-loop-less Inv-loop μ-loop
 loop-less c = search needs
 
--- src/check.rt:74:5
 loop-again : tie.Need-loop-again Inv-loop μ-loop
 loop-again c = let b = between (c .before .before .before .before .before .before .before .before .before .before .before .pre .1) (c .before .before .before .before .before .before .before .before .before .before .before .pre .0) (c .before .before .before .before .before .before .before .loop-test .taken) (c .before .before .before .before .before .wide .ensures .0) (c .before .before .before .wide2 .ensures .0) in
     ⊎-elim
@@ -87,7 +68,6 @@ loop-again c = let b = between (c .before .before .before .before .before .befor
     (λ t. rw (t .1) (telling-holds _ (c .before .before .before .before .before .before .before .before .loop .inv) (c .before .before .before .before .before .before .before .loop-test .taken) (rw (← column-is b _) (held (c .before .column-rises .ensures) (t .0 .left)))))
     (c .if1 .came)
 
--- src/check.rt:68:1
 returns : tie.Need-returns Inv-loop μ-loop
 unfolding columnsRise
 returns c = telling-done _ (c .before .loop .inv) (c .loop-test .left)

@@ -1,15 +1,13 @@
-use borrow.Author.Tests.{le-leb, lt-leb}
+-- `pointers_hold`: the first, the last, then every pair of neighbours, and `falls` tells. Assumes nothing.
 use mathlib.Core.Path.{sym, _∙_}
 use mathlib.Core.Logic.{⊎-elim}
+use Prim.Native.Nat.{_-_}
+use borrow.Author.Tests.{le-leb, lt-leb}
+use borrow.Author.Needs.{needs}
 use Rattle.lists.proofs.Folds.{Telling, telling-start, telling-holds, telling-fails, telling-done}
 use Rattle.cs_matrix.proofs.Pointers.{climbsAt, pointers-first, pointers-last, pointers-rest}
-use Prim.Native.Nat.{_-_}
-use borrow.Author.Needs.{needs}
 use Rattle.cs_matrix.proofs.check.pointers_hold.Statement.{statement}
 use Rattle.cs_matrix.proofs.check.pointers_hold.Tie as tie
-use Rattle.cs_matrix.proofs.check.pointers_hold.Reads as reads
-use Rattle.cs_matrix.proofs.check.pointers_hold.Lts as lts
-use Rattle.lists.proofs.numbers.wide.Reads as wide-reads
 
 abbrev Inv-loop : tie.InvT-loop
 Inv-loop p n last falls₀ k₀ falls k = Telling (climbsAt p) last falls k
@@ -17,74 +15,57 @@ Inv-loop p n last falls₀ k₀ falls k = Telling (climbsAt p) last falls k
 abbrev μ-loop : tie.MeasureT-loop
 μ-loop p n last falls₀ k₀ falls k = last - k
 
--- src/check.rt:17:8
 shared-slice-read-if1 : tie.Need-shared-slice-read-if1 Inv-loop μ-loop
 shared-slice-read-if1 c = search needs
 
--- src/check.rt:18:9
 returns : tie.Need-returns Inv-loop μ-loop
 returns c = pointers-first _ _ (c .if1 .taken)
 
--- src/check.rt:20:16
 sub-last : tie.Need-sub-last Inv-loop μ-loop
 sub-last c = search needs
 
--- src/check.rt:21:13
 mul-wide : tie.Need-mul-wide Inv-loop μ-loop
 mul-wide c = search needs
 
--- src/check.rt:21:13
 shared-slice-read-wide : tie.Need-shared-slice-read-wide Inv-loop μ-loop
 shared-slice-read-wide c = search needs
 
--- src/check.rt:21:8
 wide-requires : tie.Need-wide-requires Inv-loop μ-loop
 wide-requires c κs = search needs
 
--- src/check.rt:22:9
 returns-2 : tie.Need-returns-2 Inv-loop μ-loop
 returns-2 c = pointers-last _ _ (c .before .before .before .if1 .left) (λ e. c .if2 .taken (c .before .wide .ensures .0 ∙ e))
 
--- src/check.rt:26:5
 loop-holds : tie.Need-loop-holds Inv-loop μ-loop
 loop-holds c = telling-start _ _
 
--- src/check.rt:27:14
 add-if3 : tie.Need-add-if3 Inv-loop μ-loop
 add-if3 c = search needs
 
--- src/check.rt:27:12
 mul-if3 : tie.Need-mul-if3 Inv-loop μ-loop
 mul-if3 c = search needs
 
--- src/check.rt:27:12
 shared-slice-read-if3 : tie.Need-shared-slice-read-if3 Inv-loop μ-loop
 shared-slice-read-if3 c = search needs
 
--- src/check.rt:27:23
 mul-if3-2 : tie.Need-mul-if3-2 Inv-loop μ-loop
 mul-if3-2 c = search needs
 
--- src/check.rt:27:23
 shared-slice-read-if3-2 : tie.Need-shared-slice-read-if3-2 Inv-loop μ-loop
 shared-slice-read-if3-2 c = search needs
 
--- src/check.rt:30:9
 add-k : tie.Need-add-k Inv-loop μ-loop
 add-k c = search needs
 
--- src/check.rt:26:5
 loop-less : tie.Need-loop-less Inv-loop μ-loop
 loop-less c = search needs
 
--- src/check.rt:26:5
 loop-again : tie.Need-loop-again Inv-loop μ-loop
 loop-again c = ⊎-elim
     (λ t. rw (t .1) (telling-fails _ (c .before .before .before .before .loop .inv) (c .before .before .before .loop-test .taken) (lt-leb _ _ (t .0 .taken))))
     (λ t. rw (t .1) (telling-holds _ (c .before .before .before .before .loop .inv) (c .before .before .before .loop-test .taken) (le-leb _ _ (t .0 .left))))
     (c .if3 .came)
 
--- src/check.rt:13:1
 returns-3 : tie.Need-returns-3 Inv-loop μ-loop
 returns-3 c = telling-done _ (c .before .loop .inv) (c .loop-test .left) ∙ pointers-rest _ _ (c .before .before .before .before .before .if1 .left) (sym (c .before .before .before .wide .ensures .0) ∙ c .before .before .if2 .left)
 

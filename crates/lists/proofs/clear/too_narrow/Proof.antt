@@ -2,8 +2,6 @@
 use Rattle.lists.proofs.Calls.{narrow-w1, narrow-w2, narrow-w3, narrow-x}
 use Rattle.lists.proofs.clear.too_narrow.Statement.{statement}
 use Rattle.lists.proofs.clear.too_narrow.Tie as tie
-use Rattle.lists.proofs.clear.too_narrow.Reads as reads
-use Rattle.lists.proofs.clear.too_narrow.Lts as lts
 
 returns : tie.Need-returns
 returns c = narrow-w1 _ _ (c .if1 .taken)

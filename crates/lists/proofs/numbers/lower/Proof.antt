@@ -3,8 +3,6 @@ use native.Mathlib.Omega.{arith}
 use Rattle.lists.proofs.Calls.{lower-right, lower-left, lower-least}
 use Rattle.lists.proofs.numbers.lower.Statement.{statement}
 use Rattle.lists.proofs.numbers.lower.Tie as tie
-use Rattle.lists.proofs.numbers.lower.Reads as reads
-use Rattle.lists.proofs.numbers.lower.Lts as lts
 
 returns : tie.Need-returns
 returns c = lower-right _ _ (c .if1 .taken)
