@@ -4,8 +4,8 @@ use Prim.Native.Nat.{_-_, _≤_}
 use native.Mathlib.Omega.{arith}
 use lib.ListN.{length}
 use borrow.Author.Needs.{needs}
-use Rattle.boundaries.proofs.large.other_than.Statement.{statement}
-use Rattle.boundaries.proofs.large.other_than.Tie as tie
+use Rattle.transpose_run.proofs.large.other_than.Statement.{statement}
+use Rattle.transpose_run.proofs.large.other_than.Tie as tie
 
 abbrev Inv-loop : tie.InvT-loop
 Inv-loop y l n₀ k₀ n k = (n ≤ k) × (k ≤ length l)

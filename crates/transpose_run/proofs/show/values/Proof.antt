@@ -1,8 +1,8 @@
 -- `values`: the loop ends. Assumes nothing.
 use Prim.Native.Nat.{_-_, _≤_}
 use borrow.Author.Needs.{needs}
-use Rattle.boundaries.proofs.show.values.Statement.{statement}
-use Rattle.boundaries.proofs.show.values.Tie as tie
+use Rattle.transpose_run.proofs.show.values.Statement.{statement}
+use Rattle.transpose_run.proofs.show.values.Tie as tie
 
 abbrev Inv-loop : tie.InvT-loop
 Inv-loop name l k₀ t4 k = k ≤ 8

@@ -4,8 +4,8 @@ use Prim.Native.Nat.{_-_, _≤_}
 use native.Mathlib.Omega.{arith}
 use lib.ListN.{length, length-set}
 use borrow.Author.Needs.{needs}
-use Rattle.boundaries.proofs.large.count_up.Statement.{statement}
-use Rattle.boundaries.proofs.large.count_up.Tie as tie
+use Rattle.transpose_run.proofs.large.count_up.Statement.{statement}
+use Rattle.transpose_run.proofs.large.count_up.Tie as tie
 
 abbrev Inv-loop : tie.InvT-loop
 Inv-loop l₀ k₀ l k = (length l ≡ length l₀) × (k ≤ length l₀)

@@ -1,8 +1,8 @@
 -- `list`: the loop ends. Assumes nothing.
 use Prim.Native.Nat.{_-_, _≤_}
 use borrow.Author.Needs.{needs}
-use Rattle.boundaries.proofs.show.list.Statement.{statement}
-use Rattle.boundaries.proofs.show.list.Tie as tie
+use Rattle.transpose_run.proofs.show.list.Statement.{statement}
+use Rattle.transpose_run.proofs.show.list.Tie as tie
 
 abbrev Inv-loop : tie.InvT-loop
 Inv-loop name l k₀ k = k ≤ 8
