@@ -1,3 +1,4 @@
 pub mod Pointers
 pub mod Refusing
 pub mod Validity
+pub mod Falling

@@ -1,2 +1,3 @@
 pub mod Matrix
+pub mod Falls
 pub mod Cases

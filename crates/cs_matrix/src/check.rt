@@ -1,11 +1,13 @@
 // The check of a pattern, of a matrix and of a vector: numbers 1 to 5. Each step looks at all that it judges and tells at the
-// end: a loop with no early way out is one that the compiler can make wide.
+// end: a loop with no early way out is one that the compiler can make wide. So rows that do not rise are counted over the
+// whole list, and those at the start of a column apart.
 ghost use mathlib.Core.Path.{_≡_};
 ghost use Prim.Native.Nat.{_+_, _≤_};
 ghost use lib.ListN.{length};
 ghost use Rattle.lists.specs.Calls.{lowest};
-ghost use Rattle.lists.specs.Order.{allBelow, rises};
-ghost use Rattle.cs_matrix.specs.Matrix.{pattern, matrix, vector, pointers, Pointers, columnsRise, judgedPattern, judged, judgedVector};
+ghost use Rattle.lists.specs.Order.{allBelow};
+ghost use Rattle.cs_matrix.specs.Falls.{fallen, startFalls, startsFallen, Parted};
+ghost use Rattle.cs_matrix.specs.Matrix.{pattern, matrix, vector, pointers, columnsRise, judgedPattern, judged, judgedVector};
 use lists::numbers::lower;
 use lists::numbers::wide;
 
@@ -49,37 +51,58 @@ fn all_below(i: &[u32], n: usize) -> bool
     bad == 0
 }
 
-// Each row of one column is below the next.
-fn column_rises(rows: &[u32]) -> bool
-    ensures { λ r. ⌜ r ≡ rises (now (rows .entry)) ⌝ }
+// How many rows are not above the one before.
+fn falls(rows: &[u32]) -> u32
+    requires { ⌜ length (now rows) ≤ 4194304 ⌝ }
+    ensures { λ r. ⌜ r ≡ fallen (now (rows .entry)) ⌝ }
 {
-    let mut bad: u32 = 0;
+    let mut n: u32 = 0;
     let mut k = 0;
     while k + 1 < rows.len() {
-        if rows[k] >= rows[k + 1] {
-            bad = 1;
+        if rows[k + 1] <= rows[k] {
+            n += 1;
         }
         k += 1;
     }
-    bad == 0
+    n
 }
 
-// Each column, the part between its two pointers, rises.
-fn columns_rise(nrows: usize, ncols: usize, p: &[u32], i: &[u32]) -> bool
-    requires { ⌜ (length (now p) ≡ ncols + 1) × Pointers (now p) (length (now i)) ⌝ }
-    ensures { λ r. ⌜ r ≡ columnsRise (pattern nrows ncols (now (p .entry)) (now (i .entry))) ⌝ }
+// The column from a to e has entries, and its first row is not above the one before.
+fn start_falls(i: &[u32], a: usize, e: usize) -> bool
+    requires { ⌜ e ≤ length (now i) ⌝ }
+    ensures { λ r. ⌜ r ≡ startFalls (now (i .entry)) a e ⌝ }
 {
-    let mut bad: u32 = 0;
+    if a == 0 {
+        return false;
+    }
+    if e <= a {
+        return false;
+    }
+    i[a] <= i[a - 1]
+}
+
+// In how many columns.
+fn starts_fallen(ncols: usize, p: &[u32], i: &[u32]) -> u32
+    requires { ⌜ Parted ncols (now p) (now i) ⌝ }
+    ensures { λ r. ⌜ r ≡ startsFallen ncols (now (p .entry)) (now (i .entry)) ⌝ }
+{
+    let mut n: u32 = 0;
     let mut j = 0;
     while j < ncols {
-        let a = wide(p[j]);
-        let e = wide(p[j + 1]);
-        if !column_rises(&i[a..e]) {
-            bad = 1;
+        if start_falls(i, wide(p[j]), wide(p[j + 1])) {
+            n += 1;
         }
         j += 1;
     }
-    bad == 0
+    n
+}
+
+// Within each column the rows rise: all that do not rise stand at the start of a column.
+fn columns_rise(nrows: usize, ncols: usize, p: &[u32], i: &[u32]) -> bool
+    requires { ⌜ Parted ncols (now p) (now i) ⌝ }
+    ensures { λ r. ⌜ r ≡ columnsRise (pattern nrows ncols (now (p .entry)) (now (i .entry))) ⌝ }
+{
+    falls(i) == starts_fallen(ncols, p, i)
 }
 
 // The lowest refusal number of a pattern, 0 for a valid one.
@@ -137,7 +160,7 @@ pub fn check_vector(n: usize, i: &[u32], v: &[f64]) -> u32
     if !all_below(i, n) {
         return 4;
     }
-    if !column_rises(i) {
+    if falls(i) != 0 {
         return 5;
     }
     0

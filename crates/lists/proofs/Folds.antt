@@ -1,6 +1,6 @@
 -- The folds of specs/Folds.antt, one turn more, and the invariants of the loops that compute them. Assumes nothing.
 use mathlib.Core.Path.{_≡_, refl, sym, ap, _∙_}
-use mathlib.Core.Bool.{Bool, true, false, cond}
+use mathlib.Core.Bool.{Bool, true, false, not, cond, _&&_}
 use mathlib.Core.List.{List, [], _∷_}
 use mathlib.Core.Logic.{⊎-elim}
 use Prim.Native.Nat.{ℕ, zero, suc, _+_, _-_, _≤_, _<_}
@@ -9,7 +9,8 @@ use native.Mathlib.Numerals.{add-one}
 use native.Mathlib.Omega.{arith}
 use lib.Dec.{eqb}
 use lib.ListN.{length, getD, drop}
-use Rattle.lists.specs.Folds.{every, turns, falls, along, over}
+use borrow.Author.Tests.{ne-eqb}
+use Rattle.lists.specs.Folds.{every, tally, turns, falls, along, over}
 use Rattle.lists.proofs.Bools.{and-true, and-none, and-false, not-both}
 use Rattle.lists.proofs.Parts.{left-at, left-none}
 
@@ -47,6 +48,51 @@ every-end n f k h p q = let e : k ≡ n = omega arith in sym (rw e at h)
 
 pub every-stop : (n : ℕ) (f : ℕ → Bool) (k : ℕ) → k < n → f k ≡ false → false ≡ every n f
 every-stop n f k l e = sym (every-not n f k l e)
+
+-- ---- tally
+pub tally-none : (f : ℕ → Bool) → tally 0 f ≡ 0
+unfolding tally
+tally-none f = refl
+
+pub tally-holds : (n : ℕ) (f : ℕ → Bool) → f n ≡ true → tally (n + 1) f ≡ tally n f + 1
+unfolding tally
+tally-holds n f e = rw (add-one, e)
+
+pub tally-fails : (n : ℕ) (f : ℕ → Bool) → f n ≡ false → tally (n + 1) f ≡ tally n f
+unfolding tally
+tally-fails n f e = rw (add-one, e) (omega arith)
+
+-- no more than there are numbers
+pub tally-within : (n : ℕ) (f : ℕ → Bool) → tally n f ≤ n
+unfolding tally
+tally-within zero f = omega arith
+tally-within (suc n) f = omega (arith, tally-within n f, one (f n))
+  where
+    one : (b : Bool) → cond b 1 0 ≤ 1
+    one true = omega arith
+    one false = omega arith
+
+-- m numbers after a numbers
+pub tally-add : (a m : ℕ) (f : ℕ → Bool) → tally (a + m) f ≡ tally a f + tally m (λ k. f (a + k))
+unfolding tally
+tally-add a zero f = rw add-zero (omega arith)
+tally-add a (suc m) f = rw (add-suc, tally-add a m f) (omega arith)
+
+-- tests that say the same
+pub tally-same : (n : ℕ) (f g : ℕ → Bool) → ((k : ℕ) → k < n → f k ≡ g k) → tally n f ≡ tally n g
+unfolding tally
+tally-same zero f g h = refl
+tally-same (suc n) f g h = rw (tally-same n f g (λ k l. h k (omega arith)), h n (omega arith))
+
+-- a test holds nowhere where its contrary holds everywhere
+pub tally-every : (n : ℕ) (f g : ℕ → Bool) → ((k : ℕ) → k < n → g k ≡ not (f k)) → eqb (tally n g) 0 ≡ every n f
+unfolding tally every
+tally-every zero f g h = refl
+tally-every (suc n) f g h = rw (h n (omega arith)) (go (f n) (tally n g) (every n f) (tally-every n f g (λ k l. h k (omega arith))))
+  where
+    go : (b : Bool) (t : ℕ) (e : Bool) → eqb t 0 ≡ e → eqb (t + cond (not b) 1 0) 0 ≡ (e && b)
+    go true t e i = let z : t + 0 ≡ t = omega arith in rw (z, i, and-none e)
+    go false t e i = rw (ne-eqb (t + 1) 0 (λ z. omega arith), and-false e)
 
 -- ---- turns: the state of a loop that counts up is `turns k f s₀`
 module _ {S : Type 0} where

@@ -1,12 +1,17 @@
 -- Folds: over the numbers below a bound, over a list, over a column's rows and values side by side. Assumes nothing.
-use mathlib.Core.Bool.{Bool, true, _&&_}
+use mathlib.Core.Bool.{Bool, true, cond, _&&_}
 use mathlib.Core.List.{List, [], _∷_}
-use Prim.Native.Nat.{ℕ, zero, suc}
+use Prim.Native.Nat.{ℕ, zero, suc, _+_}
 
 -- the test holds at every number below n
 unfoldable pub every : ℕ → (ℕ → Bool) → Bool
 every zero f = true
 every (suc n) f = every n f && f n
+
+-- at how many numbers below n the test holds
+unfoldable pub tally : ℕ → (ℕ → Bool) → ℕ
+tally zero f = 0
+tally (suc n) f = tally n f + cond (f n) 1 0
 
 module _ {S : Type 0} where
   -- for k in 0..n { s = f k s }

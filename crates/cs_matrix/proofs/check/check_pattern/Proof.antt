@@ -34,7 +34,7 @@ returns-6 : tie.Need-returns-6
 returns-6 c = refused-4 _ (record { rows = c .before .before .before .before .before .before .before .if1 .left; cols = c .before .before .before .before .before .before .if2 .left; entries = c .before .before .before .before .before .if3 .left }) (c .before .before .before .before .if4 .left) (held (c .before .before .before .pointers-hold .ensures) (c .before .before .if5 .left)) (failed (c .before .all-below .ensures) (c .if6 .taken))
 
 columns-rise-requires : tie.Need-columns-rise-requires
-columns-rise-requires c κs = (c .before .before .before .before .if4 .left, pointers-mean _ _ (held (c .before .before .before .pointers-hold .ensures) (c .before .before .if5 .left)))
+columns-rise-requires c κs = record { cols = c .before .before .before .before .before .before .if2 .left; entries = c .before .before .before .before .before .if3 .left; p-long = c .before .before .before .before .if4 .left; ptrs = pointers-mean _ _ (held (c .before .before .before .pointers-hold .ensures) (c .before .before .if5 .left)) }
 
 returns-7 : tie.Need-returns-7
 returns-7 c = refused-5 _ (record { rows = c .before .before .before .before .before .before .before .before .before .if1 .left; cols = c .before .before .before .before .before .before .before .before .if2 .left; entries = c .before .before .before .before .before .before .before .if3 .left }) (c .before .before .before .before .before .before .if4 .left) (held (c .before .before .before .before .before .pointers-hold .ensures) (c .before .before .before .before .if5 .left)) (held (c .before .before .before .all-below .ensures) (c .before .before .if6 .left)) (failed (c .before .columns-rise .ensures) (c .if7 .taken))

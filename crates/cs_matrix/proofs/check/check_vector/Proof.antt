@@ -1,6 +1,7 @@
 -- `check_vector`: each number from the tests before it. Assumes nothing.
 use mathlib.Core.Path.{sym}
 use borrow.Author.Needs.{needs}
+use Rattle.cs_matrix.proofs.Falling.{risen, not-risen}
 use Rattle.cs_matrix.proofs.Refusing.{vector-n, vector-entries, vector-2, vector-4, vector-5, vector-0}
 use Rattle.lists.proofs.Bools.{held, failed}
 use Rattle.cs_matrix.proofs.check.check_vector.Statement.{statement}
@@ -21,14 +22,14 @@ all-below-requires c κs = search needs
 returns-4 : tie.Need-returns-4
 returns-4 c = vector-4 _ (c .before .before .before .before .if1 .left) (c .before .before .before .if2 .left) (sym (c .before .before .if3 .left)) (failed (c .before .all-below .ensures) (c .if4 .taken))
 
-column-rises-requires : tie.Need-column-rises-requires
-column-rises-requires c κs = search needs
+falls-requires : tie.Need-falls-requires
+falls-requires c κs = search needs
 
 returns-5 : tie.Need-returns-5
-returns-5 c = vector-5 _ (c .before .before .before .before .before .before .if1 .left) (c .before .before .before .before .before .if2 .left) (sym (c .before .before .before .before .if3 .left)) (held (c .before .before .before .all-below .ensures) (c .before .before .if4 .left)) (failed (c .before .column-rises .ensures) (c .if5 .taken))
+returns-5 c = vector-5 _ (c .before .before .before .before .before .before .if1 .left) (c .before .before .before .before .before .if2 .left) (sym (c .before .before .before .before .if3 .left)) (held (c .before .before .before .all-below .ensures) (c .before .before .if4 .left)) (not-risen _ (c .before .falls .ensures) (c .if5 .taken))
 
 returns-6 : tie.Need-returns-6
-returns-6 c = vector-0 _ (c .before .before .before .before .before .before .if1 .left) (c .before .before .before .before .before .if2 .left) (sym (c .before .before .before .before .if3 .left)) (held (c .before .before .before .all-below .ensures) (c .before .before .if4 .left)) (held (c .before .column-rises .ensures) (c .if5 .left))
+returns-6 c = vector-0 _ (c .before .before .before .before .before .before .if1 .left) (c .before .before .before .before .before .if2 .left) (sym (c .before .before .before .before .if3 .left)) (held (c .before .before .before .all-below .ensures) (c .before .before .if4 .left)) (risen _ (c .before .falls .ensures) (c .if5 .left))
 
 pub check-vector-spec : {M : Type 1} → statement M
 check-vector-spec =
@@ -39,6 +40,6 @@ check-vector-spec =
     returns-3
     all-below-requires
     returns-4
-    column-rises-requires
+    falls-requires
     returns-5
     returns-6)
