@@ -98,7 +98,7 @@ then (c ∷ cs) ds {r = r} g e h = go (c .1) e (λ f. then cs ds (g .2) f h)
     go true e f = absurd (omega (arith, g .0))
     go false e f = f e
 
-below-7 : (cs : List (ℕ × Bool)) → Early cs → lowest cs < 7
+pub below-7 : (cs : List (ℕ × Bool)) → Early cs → lowest cs < 7
 below-7 [] g = omega arith
 below-7 (c ∷ cs) g = go (c .1) (below-7 cs (g .2))
   where

@@ -9,3 +9,4 @@ pub mod Scattering
 pub mod Summing
 pub mod Order
 pub mod Sorting
+pub mod Mapping
