@@ -2,3 +2,4 @@ pub mod Pointers
 pub mod Refusing
 pub mod Validity
 pub mod Falling
+pub mod Rooms

@@ -106,6 +106,10 @@ short a out =
     || ltb (length (out .i)) (length (a .pattern .i))
     || ltb (length (out .v)) (length (a .v))
 
+-- the same in the lengths of the outputs, for a matrix of so many columns and entries
+unfoldable pub shortBy : ℕ → ℕ → ℕ → ℕ → ℕ → Bool
+shortBy ncols entries p i v = ltb p (ncols + 1) || ltb i entries || ltb v entries
+
 -- the matrix a written to the outputs, excess length unchanged
 unfoldable pub written : Matrix → Stored → Stored
 written a old = stored (onto (old .p) (a .pattern .p)) (onto (old .i) (a .pattern .i)) (onto (old .v) (a .v))

@@ -5,11 +5,11 @@ ghost use mathlib.Core.Path.{_≡_};
 ghost use Prim.Native.Nat.{_+_, _≤_};
 ghost use lib.ListN.{length};
 ghost use Rattle.lists.specs.Calls.{lowest};
-ghost use Rattle.lists.specs.Order.{allBelow};
 ghost use Rattle.cs_matrix.specs.Falls.{fallen, startFalls, startsFallen, Parted};
 ghost use Rattle.cs_matrix.specs.Matrix.{pattern, matrix, vector, pointers, columnsRise, judgedPattern, judged, judgedVector};
 use lists::numbers::lower;
 use lists::numbers::wide;
+use lists::order::all_below;
 
 // The first pointer is 0, the last is n, and none falls.
 fn pointers_hold(p: &[u32], n: usize) -> bool
@@ -32,23 +32,6 @@ fn pointers_hold(p: &[u32], n: usize) -> bool
         k += 1;
     }
     falls == 0
-}
-
-// Each row is below n.
-fn all_below(i: &[u32], n: usize) -> bool
-    requires { ⌜ n ≤ 65535 ⌝ }
-    ensures { λ r. ⌜ r ≡ allBelow (now (i .entry)) n ⌝ }
-{
-    let limit = n as u32;
-    let mut bad: u32 = 0;
-    let mut k = 0;
-    while k < i.len() {
-        if i[k] >= limit {
-            bad = 1;
-        }
-        k += 1;
-    }
-    bad == 0
 }
 
 // How many rows are not above the one before.
@@ -124,7 +107,7 @@ pub fn check_pattern(nrows: usize, ncols: usize, p: &[u32], i: &[u32]) -> u32
     if !pointers_hold(p, i.len()) {
         return 3;
     }
-    if !all_below(i, nrows) {
+    if !all_below(i, nrows as u32) {
         return 4;
     }
     if !columns_rise(nrows, ncols, p, i) {
@@ -157,7 +140,7 @@ pub fn check_vector(n: usize, i: &[u32], v: &[f64]) -> u32
     if v.len() != i.len() {
         return 2;
     }
-    if !all_below(i, n) {
+    if !all_below(i, n as u32) {
         return 4;
     }
     if falls(i) != 0 {

@@ -7,6 +7,6 @@ pub mod Clearing
 pub mod Keys
 pub mod Scattering
 pub mod Summing
-pub mod Order
+pub mod Ordering
 pub mod Sorting
 pub mod Mapping

@@ -27,6 +27,9 @@ pointers-hold-requires c κs = search needs
 returns-5 : tie.Need-returns-5
 returns-5 c = refused-3 _ (record { rows = c .before .before .before .before .before .if1 .left; cols = c .before .before .before .before .if2 .left; entries = c .before .before .before .if3 .left }) (c .before .before .if4 .left) (failed (c .before .pointers-hold .ensures) (c .if5 .taken))
 
+cast-all-below : tie.Need-cast-all-below
+cast-all-below c = search needs
+
 all-below-requires : tie.Need-all-below-requires
 all-below-requires c κs = search needs
 
@@ -53,6 +56,7 @@ check-pattern-spec =
     returns-4
     pointers-hold-requires
     returns-5
+    cast-all-below
     all-below-requires
     returns-6
     columns-rise-requires

@@ -16,6 +16,9 @@ returns-2 c = vector-entries _ (c .before .if1 .left) (c .if2 .taken)
 returns-3 : tie.Need-returns-3
 returns-3 c = vector-2 _ (c .before .before .if1 .left) (c .before .if2 .left) (λ e. c .if3 .taken (sym e))
 
+cast-all-below : tie.Need-cast-all-below
+cast-all-below c = search needs
+
 all-below-requires : tie.Need-all-below-requires
 all-below-requires c κs = search needs
 
@@ -38,6 +41,7 @@ check-vector-spec =
     returns
     returns-2
     returns-3
+    cast-all-below
     all-below-requires
     returns-4
     falls-requires

@@ -1,23 +1,20 @@
--- `all_below`: every row is looked at, and `bad` tells. Assumes nothing.
+-- `all_below`: every one is looked at, and `bad` tells. Assumes nothing.
 use mathlib.Core.Logic.{⊎-elim}
 use Prim.Native.Nat.{_-_}
 use lib.ListN.{length, getD}
 use lib.Dec.{ltb}
 use borrow.Author.Tests.{lt-ltb, le-ltb}
 use borrow.Author.Needs.{needs}
-use Rattle.lists.specs.Order.{allBelow}
 use Rattle.lists.proofs.Folds.{Telling, telling-start, telling-holds, telling-fails, telling-done}
-use Rattle.cs_matrix.proofs.check.all_below.Statement.{statement}
-use Rattle.cs_matrix.proofs.check.all_below.Tie as tie
+use Rattle.lists.specs.Order.{allBelow}
+use Rattle.lists.proofs.order.all_below.Statement.{statement}
+use Rattle.lists.proofs.order.all_below.Tie as tie
 
 abbrev Inv-loop : tie.InvT-loop
-Inv-loop i n limit bad₀ k₀ bad k = Telling (λ q. ltb (getD i q 0) n) (length i) bad k
+Inv-loop l n bad₀ k₀ bad k = Telling (λ q. ltb (getD l q 0) n) (length l) bad k
 
 abbrev μ-loop : tie.MeasureT-loop
-μ-loop i n limit bad₀ k₀ bad k = length i - k
-
-cast-limit : tie.Need-cast-limit Inv-loop μ-loop
-cast-limit c = search needs
+μ-loop l n bad₀ k₀ bad k = length l - k
 
 loop-holds : tie.Need-loop-holds Inv-loop μ-loop
 loop-holds c = telling-start _ _
@@ -50,7 +47,6 @@ all-below-spec =
     (tie.spec
     Inv-loop
     μ-loop
-    cast-limit
     loop-holds
     mul-if1
     shared-slice-read-if1
