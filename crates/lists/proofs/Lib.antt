@@ -10,3 +10,4 @@ pub mod Summing
 pub mod Ordering
 pub mod Sorting
 pub mod Mapping
+pub mod Places

@@ -1,0 +1,11 @@
+pub mod Placing
+pub mod Repeating
+pub mod Marks
+pub mod Naming
+pub mod Starts
+pub mod Refusing
+pub mod Rowing
+pub mod Columns
+pub mod Result
+pub mod Reorder
+pub mod Assembling

@@ -1,0 +1,3 @@
+// Matrices from other forms, after cs_matrix_conversion.rs.
+pub mod assembly;
+mod sorting;
