@@ -11,3 +11,7 @@ pub mod Ordering
 pub mod Sorting
 pub mod Mapping
 pub mod Places
+pub mod Laying
+pub mod Members
+pub mod Passing
+pub mod Placing

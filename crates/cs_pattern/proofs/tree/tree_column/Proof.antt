@@ -1,0 +1,142 @@
+use Rattle.cs_tree.proofs.Climbing.{Climbing, Climbed, Rows, climbing-start, climbing-up, climbing-next, climbing-root, climbing-end, rows-start, rows-turn, rows-done}
+use native.Mathlib.Omega.{arith}
+use mathlib.Core.Path.{refl}
+use mathlib.Core.Logic.{⊎-elim}
+use lib.ListN.{length}
+use Prim.Native.Nat.{_-_}
+use borrow.Author.Needs.{needs}
+use Rattle.cs_pattern.proofs.tree.tree_column.Statement.{statement}
+use Rattle.cs_pattern.proofs.tree.tree_column.Tie as tie
+use Rattle.cs_pattern.proofs.tree.tree_column.Reads as reads
+use Rattle.cs_pattern.proofs.tree.tree_column.Lts as lts
+use Rattle.lists.proofs.numbers.wide.Reads as wide-reads
+
+abbrev Inv-climb : tie.InvT-climb
+Inv-climb k rows par₀ anc₀ top q i₀ q-end par anc i = Climbing k par₀ anc₀ par anc i₀ i
+
+abbrev μ-climb : tie.MeasureT-climb
+μ-climb k rows par₀ anc₀ top q i₀ q-end par anc i = k - i
+
+abbrev Inv-loop : tie.InvT-loop
+Inv-loop k rows par₀ anc₀ top q₀ q-end par anc q = Rows k rows par₀ anc₀ par anc q
+
+abbrev μ-loop : tie.MeasureT-loop
+μ-loop k rows par₀ anc₀ top q₀ q-end par anc q = length rows - q
+
+-- src/tree.rt:28:9
+wide-requires : tie.Need-wide-requires Inv-climb μ-climb Inv-loop μ-loop
+wide-requires c κs = search needs
+
+-- src/tree.rt:29:5
+loop-holds : tie.Need-loop-holds Inv-climb μ-climb Inv-loop μ-loop
+loop-holds c = rows-start _ (c .before .before .before .before .pre)
+
+-- src/tree.rt:30:26
+mul-wide : tie.Need-mul-wide Inv-climb μ-climb Inv-loop μ-loop
+mul-wide c = search needs
+
+-- src/tree.rt:30:26
+shared-slice-read-wide : tie.Need-shared-slice-read-wide Inv-climb μ-climb Inv-loop μ-loop
+shared-slice-read-wide c = search needs
+
+-- src/tree.rt:30:13
+wide-requires-2 : tie.Need-wide-requires-2 Inv-climb μ-climb Inv-loop μ-loop
+wide-requires-2 c κs = search needs
+
+-- src/tree.rt:31:9
+climb-holds : tie.Need-climb-holds Inv-climb μ-climb Inv-loop μ-loop
+climb-holds c = climbing-start _ (c .before .before .before .loop .inv .asks)
+
+-- src/tree.rt:32:21
+mul-a : tie.Need-mul-a Inv-climb μ-climb Inv-loop μ-loop
+mul-a c = search needs
+
+-- src/tree.rt:32:21
+slice-read-a : tie.Need-slice-read-a Inv-climb μ-climb Inv-loop μ-loop
+slice-read-a c = search needs
+
+-- src/tree.rt:33:13
+mul-anc : tie.Need-mul-anc Inv-climb μ-climb Inv-loop μ-loop
+mul-anc c = search needs
+
+-- src/tree.rt:33:13
+slice-write-anc : tie.Need-slice-write-anc Inv-climb μ-climb Inv-loop μ-loop
+slice-write-anc c = search needs
+
+-- src/tree.rt:35:17
+mul-par : tie.Need-mul-par Inv-climb μ-climb Inv-loop μ-loop
+mul-par c = search needs
+
+-- src/tree.rt:35:17
+slice-write-par : tie.Need-slice-write-par Inv-climb μ-climb Inv-loop μ-loop
+slice-write-par c = search needs
+
+-- src/tree.rt:38:13
+wide-requires-3 : tie.Need-wide-requires-3 Inv-climb μ-climb Inv-loop μ-loop
+wide-requires-3 c κs = search needs
+
+-- src/tree.rt:31:9
+climb-less : tie.Need-climb-less Inv-climb μ-climb Inv-loop μ-loop
+climb-less c = omega (arith, climbing-up (c .before .before .before .before .climb .inv) (omega arith))
+
+-- src/tree.rt:31:9
+climb-again : tie.Need-climb-again Inv-climb μ-climb Inv-loop μ-loop
+climb-again c = climbing-next (c .before .before .before .before .climb .inv) (omega arith) (c .before .if1 .left) (c .wide3 .ensures .0)
+
+-- src/tree.rt:29:9
+add-q : tie.Need-add-q Inv-climb μ-climb Inv-loop μ-loop
+add-q c = search needs
+
+-- src/tree.rt:29:5
+loop-less : tie.Need-loop-less Inv-climb μ-climb Inv-loop μ-loop
+loop-less c = search needs
+
+-- src/tree.rt:29:5
+loop-again : tie.Need-loop-again Inv-climb μ-climb Inv-loop μ-loop
+loop-again c = rows-turn (c .before .before .before .before .before .loop .inv) (c .before .before .before .before .loop-test .taken) (c .before .before .wide2 .ensures .0)
+    (⊎-elim
+    (λ w. rw (w .1, w .2) (climbing-end (c .before .climb .inv) (omega arith)))
+    (λ w. rw (w .3, w .4) (climbing-root (c .before .climb .inv) (omega arith) (w .2 .taken)))
+    (c .climb-test .came))
+
+-- src/tree.rt:24:1
+same-length : tie.Need-same-length Inv-climb μ-climb Inv-loop μ-loop
+same-length c = search needs
+
+-- src/tree.rt:24:1
+same-length-2 : tie.Need-same-length-2 Inv-climb μ-climb Inv-loop μ-loop
+same-length-2 c = search needs
+
+-- src/tree.rt:24:1
+returns : tie.Need-returns Inv-climb μ-climb Inv-loop μ-loop
+returns c = rows-done (c .before .loop .inv) (c .loop-test .left)
+
+pub tree-column-spec : {M : Type 1} → statement M
+tree-column-spec =
+    tie.close
+    (tie.spec
+    Inv-climb
+    μ-climb
+    Inv-loop
+    μ-loop
+    wide-requires
+    loop-holds
+    mul-wide
+    shared-slice-read-wide
+    wide-requires-2
+    climb-holds
+    mul-a
+    slice-read-a
+    mul-anc
+    slice-write-anc
+    mul-par
+    slice-write-par
+    wide-requires-3
+    climb-less
+    climb-again
+    add-q
+    loop-less
+    loop-again
+    same-length
+    same-length-2
+    returns)

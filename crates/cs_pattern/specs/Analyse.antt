@@ -1,0 +1,32 @@
+-- The analysis as a call: what it answers and writes. Assumes nothing.
+use mathlib.Core.Bool.{Bool, not, _||_}
+use mathlib.Core.List.{List, [], _∷_, _++_}
+use Prim.Native.Nat.{ℕ}
+use lib.Dec.{ltb, eqb}
+use lib.ListN.{length}
+use Rattle.lists.specs.Calls.{lowest, both, disagree, onto, narrow, Lent}
+use Rattle.cs_matrix.specs.Matrix.{Pattern, judgedPattern, needed}
+use Rattle.cs_tree.specs.Pattern.{Analysis, analysis, analysed}
+use Rattle.cs_pattern.specs.Columns.{columns}
+
+-- numbers 1 to 5, of a pattern that has to be square: 2 also where it is not
+unfoldable pub judgedSquare : Pattern → List (ℕ × Bool)
+judgedSquare a = both (judgedPattern a) (disagree (not (eqb (a .nrows) (a .ncols))))
+
+-- 7, where the analysis f is to be written: an output is shorter than needed, or the needed count is over 4,194,304
+unfoldable pub short : Analysis → Analysis → Bool
+short f out =
+    ltb 4194304 (length (f .ui))
+    || ltb (length (out .tree)) (length (f .tree))
+    || ltb (length (out .up)) (length (f .up))
+    || ltb (length (out .ui)) (length (f .ui))
+    || ltb (length (out .lp)) (length (f .lp))
+    || ltb (length (out .li)) (length (f .li))
+
+-- the analysis f written to the outputs, excess length unchanged
+unfoldable pub written : Analysis → Analysis → Analysis
+written f old = analysis (onto (old .tree) (f .tree)) (onto (old .up) (f .up)) (onto (old .ui) (f .ui)) (onto (old .lp) (f .lp)) (onto (old .li) (f .li))
+
+-- the number that the analysis of a answers
+unfoldable pub number : Pattern → Lent Analysis → ℕ
+number a old = lowest (judgedSquare a ++ ((6, narrow (needed a) (old .work)) ∷ (7, short (analysed (columns a)) (old .out)) ∷ []))

@@ -1,0 +1,5 @@
+pub mod Columns
+pub mod Steps
+pub mod Analyse
+pub mod Promise
+pub mod Compare

@@ -1,0 +1,59 @@
+-- What both calls have worked out once their numbers 1 to 6 are judged. Assumes nothing.
+use mathlib.Core.Path.{_≡_}
+use mathlib.Core.Bool.{Bool, true, false}
+use mathlib.Core.List.{List, [], _∷_, _++_}
+use Prim.Native.Nat.{ℕ, _+_, _≤_, min}
+use lib.ListN.{length, take}
+use Rattle.lists.specs.Calls.{onto}
+use Rattle.lists.specs.Keys.{byKey}
+use Rattle.lists.specs.Parts.{part}
+use Rattle.cs_tree.specs.Pattern.{upper, entries, Analysis}
+use Rattle.cs_tree.specs.Steps.{lengths, Kept, Spread, Put}
+use Rattle.cs_tree.specs.Tree.{tree}
+use Rattle.cs_pattern.specs.Compare.{startsWith}
+
+-- the tree, the entries of U counted, and the lengths of its columns where they are not too many
+pub record Begun (cols : List (List ℕ)) (n t : ℕ) (w1 w1′ w2 w2′ w3 w3′ : List ℕ) : Type 0 where
+  pub count : t ≡ min (entries (upper cols)) 4194305
+  pub tree-is : w1′ ≡ onto w1 (tree cols)
+  pub kept2 : Kept n w2 w2′
+  pub kept3 : Kept n w3 w3′
+  pub lengths-are : t ≤ 4194304 → w3′ ≡ onto w3 (lengths (upper cols))
+
+-- what has to be known before anything is written
+pub record Ready (cols : List (List ℕ)) (n t : ℕ) (w1 w2 w3 : List ℕ) (out : Analysis) : Type 0 where
+  pub tree-is : part 0 n w1 ≡ tree cols
+  pub w1-long : n ≤ length w1
+  pub w2-long : n ≤ length w2
+  pub w3-long : n + 1 ≤ length w3
+  pub lengths-are : take (n + 1) w3 ≡ lengths (upper cols) ++ (0 ∷ [])
+  pub size : t ≡ entries (upper cols)
+  pub few : t ≤ 4194304
+  pub tree-room : n ≤ length (out .tree)
+  pub up-room : n + 1 ≤ length (out .up)
+  pub ui-room : t ≤ length (out .ui)
+  pub lp-room : n + 1 ≤ length (out .lp)
+  pub li-room : t ≤ length (out .li)
+
+-- a column of L was looked at: it agrees, or a place differs from what belongs there; either way `next` has gone on
+pub record Looked {k : ℕ} {rows next li : List ℕ} (s : Spread k rows next li) (r : Bool) (next1 li1 : List ℕ) : Type 0 where
+  pub agrees : r ≡ true → Put k rows next li s next1 li1 (length rows)
+  pub differs : r ≡ false → false ≡ startsWith (byKey (s .n) (s .keys) (s .xs)) li1
+  pub kept : Kept (s .n) (s .next₀) next1
+
+-- the lengths of n columns, in the front of a slice
+pub record Counts (n : ℕ) (counts : List ℕ) : Type 0 where
+  pub us : List (List ℕ)
+  pub size : length us ≡ n
+  pub few : entries us ≤ 4194304
+  pub room : n + 1 ≤ length counts
+  pub are : take (n + 1) counts ≡ lengths us ++ (0 ∷ [])
+
+-- what the comparison starts from
+pub record Fresh (cols : List (List ℕ)) (n t : ℕ) (w1 w2 w3 : List ℕ) : Type 0 where
+  pub tree-is : part 0 n w1 ≡ tree cols
+  pub w1-long : n + 1 ≤ length w1
+  pub w2-long : n + 1 ≤ length w2
+  pub w3-long : n + 1 ≤ length w3
+  pub count : t ≡ min (entries (upper cols)) 4194305
+  pub lengths-are : t ≤ 4194304 → take (n + 1) w3 ≡ lengths (upper cols) ++ (0 ∷ [])

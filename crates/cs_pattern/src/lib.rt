@@ -1,0 +1,11 @@
+// The pattern of a Cholesky factor, after the symbolic half of cs_matrix_cholesky.rs: the elimination tree, the columns of U by
+// walks up the tree, L as U transposed.
+pub mod analyse;
+pub mod compare;
+mod fill;
+mod lower;
+mod reach;
+mod same;
+pub mod square;
+mod tree;
+mod upper;

@@ -1,0 +1,55 @@
+// The elimination tree, by climbs along the noted ancestors.
+ghost use mathlib.Core.Path.{_≡_};
+ghost use lib.ListN.{length, replicate};
+ghost use Rattle.cs_matrix.specs.Matrix.{pattern, ValidPattern};
+ghost use Rattle.cs_tree.specs.Steps.{Climbs};
+ghost use Rattle.cs_tree.specs.Tree.{root, forest, climbs, tree};
+ghost use Rattle.cs_pattern.specs.Columns.{columns};
+use lists::numbers::wide;
+
+const ROOT: u32 = 4294967295;
+
+// The root's mark in every place.
+fn roots(out: &mut [u32])
+    ensures { λ _. ⌜ now (out .exit) ≡ replicate (length (now (out .entry))) root ⌝ }
+{
+    let mut k = 0;
+    while k < out.len() {
+        out[k] = ROOT;
+        k += 1;
+    }
+}
+
+// Column k's part in the tree.
+fn tree_column(k: u32, rows: &[u32], par: &mut [u32], anc: &mut [u32])
+    requires { ⌜ Climbs k (now par) (now anc) ⌝ }
+    ensures { λ _. ⌜ forest (now (par .exit)) (now (anc .exit)) ≡ climbs k (now (rows .entry)) (forest (now (par .entry)) (now (anc .entry))) ⌝ }
+{
+    let top = wide(k);
+    for q in 0..rows.len() {
+        let mut i = wide(rows[q]);
+        'climb: while i < top {
+            let a = anc[i];
+            anc[i] = k;
+            if a == ROOT {
+                par[i] = k;
+                break 'climb;
+            }
+            i = wide(a);
+        }
+    }
+}
+
+// The tree of a pattern with n columns, in par.
+pub fn elimination_tree(n: usize, p: &[u32], i: &[u32], par: &mut [u32], anc: &mut [u32])
+    requires { ⌜ ValidPattern (pattern n n (now p) (now i)) × (length (now par) ≡ n) × (length (now anc) ≡ n) ⌝ }
+    ensures { λ _. ⌜ now (par .exit) ≡ tree (columns (pattern n n (now (p .entry)) (now (i .entry)))) ⌝ }
+{
+    roots(par);
+    roots(anc);
+    for k in 0..n {
+        let a = wide(p[k]);
+        let e = wide(p[k + 1]);
+        tree_column(k as u32, &i[a..e], par, anc);
+    }
+}

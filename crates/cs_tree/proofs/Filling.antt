@@ -1,0 +1,176 @@
+-- The loops over the columns of U: how long each is, and each laid behind the earlier ones. Assumes nothing.
+use mathlib.Core.Path.{_≡_, refl, sym, ap, _∙_}
+use mathlib.Core.List.{List, [], _∷_, _++_, flatten}
+use mathlib.Core.Logic.{⊎-elim}
+use Prim.Native.Nat.{ℕ, zero, suc, _+_, _-_, _≤_, _<_, _^_, min}
+use native.Mathlib.Nat.{eq-or-lt-of-le}
+use native.Mathlib.Numerals.{add-one}
+use native.Mathlib.Omega.{arith}
+use lib.ListN.{length, getD, set, take, length-set, length-append}
+use lib.Seq.{getD-set-same, getD-set-other, take-suc, take-all, ext-getD}
+use Rattle.lists.specs.Calls.{onto}
+use Rattle.lists.specs.Parts.{part, placed}
+use Rattle.lists.proofs.Bools.{eq-or-ne}
+use Rattle.lists.proofs.Laying.{onto-placed}
+use Rattle.lists.proofs.Parts.{onto-none, length-onto, length-part}
+use Rattle.cs_tree.specs.Tree.{root, tree}
+use Rattle.cs_tree.specs.Pattern.{paths, upperColumn, upper, entries}
+use Rattle.cs_tree.specs.Steps.{Marks, Walks, Zeros, Given, Pointed, lengths}
+use Rattle.cs_tree.proofs.Count.{upperColumn-short}
+use Rattle.cs_tree.proofs.Growing.{tree-long, tree-above}
+use Rattle.cs_tree.proofs.Laid.{entries-more, entries-part, length-lengths, lengths-at, length-laid, flatten-more}
+use Rattle.cs_tree.proofs.Laws.{upper-at}
+use Rattle.cs_tree.proofs.Lower.{length-upper}
+use Rattle.cs_tree.proofs.Walking.{marks-fresh, marks-next}
+
+module _ {cols : List (List ℕ)} {par : List ℕ} (g : Given cols par) where
+  pub fits : length cols ≤ root
+  unfolding root
+  fits = omega (arith, g .small)
+
+  pub given-walks : {k : ℕ} {mark : List ℕ} → k < length cols → length mark ≡ length cols → Walks k par mark
+  given-walks h e =
+      record {
+        small = omega (arith, g .small);
+        p-long = rw (g .par-is, tree-long cols fits) h;
+        m-long = omega arith;
+        above = rw (g .par-is) (tree-above cols fits);
+      }
+
+  -- the column worked out from its rows
+  pub given-column : (k : ℕ) {rows : List ℕ} → rows ≡ getD cols k [] → paths par k rows [] ≡ getD (upper cols) k []
+  unfolding upperColumn
+  given-column k e = rw (e, g .par-is) (sym (upper-at cols fits k))
+
+  pub column-short : (k : ℕ) → length (getD (upper cols) k []) ≤ suc k
+  column-short k = rw (upper-at cols fits k) (upperColumn-short cols fits k)
+
+  pub upper-long : length (upper cols) ≡ length cols
+  upper-long = length-upper cols fits
+
+-- ---- `count_columns`
+pub record Counting (cols : List (List ℕ)) (counts₀ mark counts : List ℕ) (total k : ℕ) : Type 0 where
+  pub within : k ≤ length cols
+  pub m-long : length mark ≡ length cols
+  pub c-long : length counts ≡ length cols
+  pub fresh : Marks k mark []
+  pub few : total ≤ 4194304
+  pub sum : total ≡ entries (take k (upper cols))
+  pub at : (j : ℕ) → j < k → getD counts j 0 ≡ length (getD (upper cols) j [])
+
+pub counting-start : {cols : List (List ℕ)} {mark counts : List ℕ} → length mark ≡ length cols → length counts ≡ length cols → Zeros mark → Counting cols counts mark counts 0 0
+unfolding entries
+counting-start {mark = mark} a b h =
+    record {
+      within = omega arith;
+      m-long = a;
+      c-long = b;
+      fresh = marks-fresh 0 mark (λ i l. omega (arith, h .at i l));
+      few = omega arith;
+      sum = refl;
+      at = λ j l. absurd (omega arith);
+    }
+
+module _ {cols : List (List ℕ)} {par counts₀ mark counts : List ℕ} {total k : ℕ} (g : Given cols par) (v : Counting cols counts₀ mark counts total k) where
+  module _ {rows : List ℕ} {c : ℕ} {mark1 : List ℕ} (h : k < length cols) (e : rows ≡ getD cols k []) (l : length mark1 ≡ length mark) (r : (c ≡ length (paths par k rows [])) × Marks k mark1 (paths par k rows [])) where
+    count-is : c ≡ length (getD (upper cols) k [])
+    count-is = r .0 ∙ ap length (given-column g k e)
+
+    pub count-small : c ≤ 65535
+    count-small = omega (arith, count-is, column-short g k, g .small)
+
+    more : total + c ≡ entries (take (k + 1) (upper cols))
+    more = omega (arith, v .sum, count-is, entries-more (upper cols) k (rw (upper-long g) h))
+
+    at : (j : ℕ) → j < k + 1 → getD (set counts k c) j 0 ≡ length (getD (upper cols) j [])
+    at j m =
+        ⊎-elim
+        (λ (f : j ≡ k). rw (f, getD-set-same counts k c 0 (omega (arith, v .c-long))) count-is)
+        (λ (f : j ≡ k → ⊥). rw (getD-set-other counts k j c 0 f) (v .at j (omega arith)))
+        (eq-or-ne j k)
+
+    pub counting-turn : total + c ≤ 4194304 → Counting cols counts₀ mark1 (set counts k c) (total + c) (k + 1)
+    counting-turn f =
+        record {
+          within = omega arith;
+          m-long = l ∙ v .m-long;
+          c-long = length-set counts k c ∙ v .c-long;
+          fresh = marks-next (r .1);
+          few = f;
+          sum = more;
+          at = at;
+        }
+
+    pub counting-stop : 4194304 < total + c → 4194305 ≡ min (entries (upper cols)) 4194305
+    counting-stop f = omega (arith, more, entries-part (upper cols) (k + 1))
+
+  pub counting-done : length cols ≤ k → (total ≡ min (entries (upper cols)) 4194305) × (total ≤ 4194304 → counts ≡ lengths (upper cols))
+  counting-done h =
+      let e : k ≡ length (upper cols) = omega (arith, v .within, upper-long g) in
+      let s : total ≡ entries (upper cols) = v .sum ∙ ap entries (take-all k (upper cols) (omega arith)) in (
+        omega (arith, v .few),
+        λ m. ext-getD 0 counts (lengths (upper cols)) (v .c-long ∙ sym (length-lengths (upper cols) ∙ upper-long g)) (λ j l. v .at j (omega (arith, v .c-long)) ∙ sym (lengths-at (upper cols) j)),
+      )
+
+-- ---- a column of U between its two pointers
+module _ {cols : List (List ℕ)} {par up : List ℕ} {k b f : ℕ} (g : Given cols par) (p : Pointed (upper cols) up) (h : k < length cols) (x : b ≡ getD up k 0) (y : f ≡ getD up (k + 1) 0) where
+  pub pointed-start : b ≡ entries (take k (upper cols))
+  pointed-start = x ∙ p .at k (omega (arith, upper-long g))
+
+  pub pointed-size : f ≡ b + length (getD (upper cols) k [])
+  pointed-size = omega (arith, pointed-start, y, p .at (k + 1) (omega (arith, upper-long g)), entries-more (upper cols) k (rw (upper-long g) h))
+
+  pub pointed-end : f ≤ entries (upper cols)
+  pointed-end = omega (arith, y, p .at (k + 1) (omega (arith, upper-long g)), entries-part (upper cols) (k + 1))
+
+  pub pointed-order : b ≤ f
+  pointed-order = omega (arith, pointed-size)
+
+  -- the part between them is as long as the column
+  pub pointed-part : {rows : List ℕ} (ui : List ℕ) → rows ≡ getD cols k [] → entries (upper cols) ≤ length ui → length (part b f ui) ≡ length (paths par k rows [])
+  pointed-part ui e r = length-part b f ui (omega (arith, pointed-end)) ∙ (let z : f - b ≡ length (getD (upper cols) k []) = omega (arith, pointed-size) in z) ∙ sym (ap length (given-column g k e))
+
+-- ---- `upper_columns`
+pub record Filling (cols : List (List ℕ)) (ui₀ mark ui : List ℕ) (k : ℕ) : Type 0 where
+  pub within : k ≤ length cols
+  pub m-long : length mark ≡ length cols
+  pub room : entries (upper cols) ≤ length ui₀
+  pub fresh : Marks k mark []
+  pub is : ui ≡ onto ui₀ (flatten (take k (upper cols)))
+
+pub filling-start : {cols : List (List ℕ)} {mark ui : List ℕ} → length mark ≡ length cols → entries (upper cols) ≤ length ui → Zeros mark → Filling cols ui mark ui 0
+unfolding flatten
+filling-start {mark = mark} {ui = ui} a r h = record { within = omega arith; m-long = a; room = r; fresh = marks-fresh 0 mark (λ i l. omega (arith, h .at i l)); is = onto-none ui }
+
+module _ {cols : List (List ℕ)} {par ui₀ mark ui up : List ℕ} {k : ℕ} (g : Given cols par) (p : Pointed (upper cols) up) (v : Filling cols ui₀ mark ui k) where
+  abbrev front : List ℕ
+  front = flatten (take k (upper cols))
+
+  front-long : length front ≡ entries (take k (upper cols))
+  front-long = length-laid (take k (upper cols))
+
+  pub filling-long : length ui ≡ length ui₀
+  filling-long = rw (v .is) (length-onto ui₀ front (omega (arith, front-long, entries-part (upper cols) k, v .room)))
+
+  module _ {rows : List ℕ} {b f : ℕ} (h : k < length cols) (e : rows ≡ getD cols k []) (x : b ≡ getD up k 0) (y : f ≡ getD up (k + 1) 0) where
+    pub filling-inside : f ≤ length ui
+    filling-inside = omega (arith, filling-long, pointed-end g p h x y, v .room)
+
+    pub filling-part : length (part b f ui) ≡ length (paths par k rows [])
+    filling-part = pointed-part g p h x y ui e (omega (arith, filling-long, v .room))
+
+    pub filling-turn : {ys mark1 : List ℕ} → length mark1 ≡ length mark → (ys ≡ paths par k rows []) × Marks k mark1 ys → Filling cols ui₀ mark1 (placed b f ui ys) (k + 1)
+    filling-turn {ys = ys} l r =
+        let w : ys ≡ getD (upper cols) k [] = r .0 ∙ given-column g k e in
+        let s : take (k + 1) (upper cols) ≡ take k (upper cols) ++ (getD (upper cols) k [] ∷ []) = rw add-one (take-suc (upper cols) k [] (rw (upper-long g) h)) in
+        let t : length ys ≡ f - b = rw w (omega (arith, pointed-size g p h x y)) in
+        record {
+          within = omega arith;
+          m-long = l ∙ v .m-long;
+          room = v .room;
+          fresh = marks-next (r .1);
+          is = rw (v .is, s, flatten-more (take k (upper cols)) (getD (upper cols) k [])) (onto-placed ui₀ front ys b f (front-long ∙ sym (pointed-start g p h x y)) (pointed-order g p h x y) t ∙ ap (λ (z : List ℕ). onto ui₀ (front ++ z)) w);
+        }
+
+  pub filling-done : length cols ≤ k → ui ≡ onto ui₀ (flatten (upper cols))
+  filling-done h = v .is ∙ ap (λ (z : List (List ℕ)). onto ui₀ (flatten z)) (take-all k (upper cols) (omega (arith, upper-long g)))

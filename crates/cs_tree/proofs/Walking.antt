@@ -1,0 +1,382 @@
+-- The loops of a column of U: the walk from one row with its marks, the same way again into the slice, and row by row. Assumes nothing.
+use mathlib.Core.Path.{_≡_, refl, sym, ap, _∙_}
+use mathlib.Core.Bool.{Bool, true, false, _||_}
+use mathlib.Core.List.{List, [], _∷_, _++_, append-nil, append-assoc, List·Memᴰ, List·Memᴰ·head, List·Memᴰ·tail, List·Memᴰ·not-nil, List·Memᴰ·cases-cons, List·Memᴰ·append-cases}
+use mathlib.Core.Logic.{_⊎_, inl, inr, ⊎-elim, _≢_}
+use Prim.Native.Nat.{ℕ, zero, suc, _+_, _-_, _*_, _≤_, _<_}
+use native.Mathlib.Numerals.{add-one}
+use native.Mathlib.Omega.{arith}
+use native.Mathlib.Decide.{decLe}
+use lib.Dec.{eqb}
+use lib.ListN.{length, getD, set, take, drop, length-set, length-append, length-drop}
+use lib.Seq.{getD-set-same, getD-set-other, append-snoc, getD-at, take-all, drop-at, drop-drop, drop-length, length-take-le}
+use borrow.Author.Tests.{eq-eqb, ne-eqb}
+use Rattle.lists.specs.Folds.{along}
+use Rattle.lists.specs.Order.{lists}
+use Rattle.lists.specs.Parts.{part, placed}
+use Rattle.lists.proofs.Bools.{eq-or-ne, or-false, or-none}
+use Rattle.lists.proofs.Ordering.{lists-mean, member-lists}
+use Rattle.lists.proofs.Parts.{written-more, length-part, length-placed}
+use Rattle.lists.proofs.Members.{lists-same, lists-other, lists-append, listed-or-not, getD-any}
+use Rattle.lists.proofs.Folds.{Along, along-start, along-turn, along-end}
+use Rattle.cs_tree.specs.Tree.{root}
+use Rattle.cs_tree.specs.Pattern.{path, paths}
+use Rattle.cs_tree.specs.Steps.{Above, Marks, Walks, chain, way, Walked}
+use Rattle.cs_tree.proofs.Steps.{path-over, path-seen, path-new}
+
+-- ---- marks
+-- no index is listed yet in a column above all marks
+pub marks-fresh : (k : ℕ) (mark : List ℕ) → ((i : ℕ) → i < length mark → getD mark i 0 ≤ k) → Marks k mark []
+unfolding lists
+marks-fresh k mark h = record { at = λ i l. ne-eqb (getD mark i 0) (k + 1) (λ e. omega (arith, h i l)); most = λ i l. omega (arith, h i l) }
+
+pub marks-next : {k : ℕ} {mark listed : List ℕ} → Marks k mark listed → Marks (k + 1) mark []
+marks-next {k = k} {mark = mark} v = marks-fresh (k + 1) mark (v .most)
+
+-- one more
+marks-more : {k : ℕ} {mark : List ℕ} (l acc : List ℕ) (i : ℕ) → i < length mark → Marks k mark (l ++ acc) → Marks k (set mark i (k + 1)) ((l ++ (i ∷ [])) ++ acc)
+marks-more {k = k} {mark = mark} l acc i h v = record { at = at; most = most }
+  where
+    same : lists i ((l ++ (i ∷ [])) ++ acc) ≡ true
+    same = member-lists i _ (mem l)
+      where
+        mem : (l : List ℕ) → List·Memᴰ i ((l ++ (i ∷ [])) ++ acc)
+        mem [] = List·Memᴰ·head refl
+        mem (x ∷ l) = List·Memᴰ·tail (mem l)
+
+    other : (j : ℕ) → j ≢ i → lists j ((l ++ (i ∷ [])) ++ acc) ≡ lists j (l ++ acc)
+    other j n = ap (lists j) (append-snoc l i acc) ∙ lists-append j l (i ∷ acc) ∙ ap (λ (b : Bool). lists j l || b) (lists-other j i acc n) ∙ sym (lists-append j l acc)
+
+    at : (j : ℕ) → j < length (set mark i (k + 1)) → eqb (getD (set mark i (k + 1)) j 0) (k + 1) ≡ lists j ((l ++ (i ∷ [])) ++ acc)
+    at j m =
+        ⊎-elim
+        (λ (e : j ≡ i). rw (e, getD-set-same mark i (k + 1) 0 h, same) (eq-eqb (k + 1) (k + 1) refl))
+        (λ (e : j ≡ i → ⊥). rw (getD-set-other mark i j (k + 1) 0 e, other j e) (v .at j (omega (arith, length-set mark i (k + 1)))))
+        (eq-or-ne j i)
+
+    most : (j : ℕ) → j < length (set mark i (k + 1)) → getD (set mark i (k + 1)) j 0 ≤ k + 1
+    most j m =
+        ⊎-elim
+        (λ (e : j ≡ i). rw (e, getD-set-same mark i (k + 1) 0 h) (omega arith))
+        (λ (e : j ≡ i → ⊥). rw (getD-set-other mark i j (k + 1) 0 e) (v .most j (omega (arith, length-set mark i (k + 1)))))
+        (eq-or-ne j i)
+
+-- ---- the walk from a row, with the list `older` before it
+pub record Walking (k : ℕ) (par : List ℕ) (row : ℕ) (older : List ℕ) (i len : ℕ) (mark : List ℕ) : Type 0 where
+  pub fuel : ℕ
+  pub done : List ℕ
+  pub count : len ≡ length done
+  pub goes : way k par row older ≡ done ++ path fuel par k i older
+  pub enough : k < i + fuel
+  pub low : (x : ℕ) → List·Memᴰ x done → x < i
+  pub marks : Marks k mark (done ++ older)
+
+pub walking-start : {k : ℕ} {par : List ℕ} {row : ℕ} {older mark : List ℕ} → Marks k mark older → Walking k par row older row 0 mark
+walking-start {k = k} v = record { fuel = suc k; done = []; count = refl; goes = refl; enough = omega arith; low = λ x m. absurd (List·Memᴰ·not-nil m); marks = v }
+
+module _ {k : ℕ} {par : List ℕ} {row : ℕ} {older : List ℕ} {i len : ℕ} {mark : List ℕ} (v : Walking k par row older i len mark) where
+  ended : path (v .fuel) par k i older ≡ [] → Walked k par row older len mark
+  ended e =
+      let g : way k par row older ≡ v .done = v .goes ∙ ap (λ (l : List ℕ). v .done ++ l) e ∙ append-nil (v .done) in
+      record { is = rw g (v .count); marks = rw g (v .marks) }
+
+  pub walking-over : k < i → Walked k par row older len mark
+  walking-over h = ended (path-over (v .fuel) par k i older h)
+
+  not-done : lists i (v .done ++ older) ≡ lists i older
+  not-done = elim (listed-or-not i (v .done)) [
+    | inl q ↦ absurd (omega (arith, v .low i (q .1)))
+    | inr q ↦ lists-append i (v .done) older ∙ ap (λ (b : Bool). b || lists i older) (q .0)
+  ]
+
+  module _ (h : i ≤ k) (m : i < length mark) where
+    pub walking-seen : getD mark i 0 ≡ k + 1 → Walked k par row older len mark
+    walking-seen e = ended (path-seen (v .fuel) par k i older h (sym not-done ∙ sym (v .marks .at i m) ∙ eq-eqb (getD mark i 0) (k + 1) e))
+
+    pub walking-next : {n : ℕ} → Above par → i < length par → (getD mark i 0 ≡ k + 1 → ⊥) → n ≡ getD par i 0 → Walking k par row older n (len + 1) (set mark i (k + 1))
+    walking-next {n = n} a l e f = go (v .fuel) (v .goes) (v .enough)
+      where
+        new : lists i older ≡ false
+        new = sym not-done ∙ sym (v .marks .at i m) ∙ ne-eqb (getD mark i 0) (k + 1) e
+
+        same : getD par i root ≡ n
+        same = getD-any par i root 0 l ∙ sym f
+
+        rise : i < n
+        rise = omega (arith, a .up i l)
+
+        go : (g : ℕ) → way k par row older ≡ v .done ++ path g par k i older → k < i + g → Walking k par row older n (len + 1) (set mark i (k + 1))
+        go zero p q = absurd (omega arith)
+        go (suc g) p q =
+            record {
+              fuel = g;
+              done = v .done ++ (i ∷ []);
+              count = omega (arith, length-append (v .done) (i ∷ []), v .count);
+              goes = p ∙ ap (λ (t : List ℕ). v .done ++ t) (path-new g par k i older h new ∙ ap (λ (x : ℕ). i ∷ path g par k x older) same) ∙ sym (append-snoc (v .done) i (path g par k n older));
+              enough = omega (arith, rise);
+              low = λ x t. elim (List·Memᴰ·append-cases (v .done) t) [
+                | inl u ↦ omega (arith, v .low x u, rise)
+                | inr u ↦ elim (List·Memᴰ·cases-cons u) [ inl w ↦ omega (arith, w, rise) | inr w ↦ absurd (List·Memᴰ·not-nil w) ]
+              ];
+              marks = marks-more (v .done) older i m (v .marks);
+            }
+
+-- the loop of `walk`: it ends without the marks telling anything, and tells for every list that they may stand for
+pub record Walk (k : ℕ) (par : List ℕ) (row : ℕ) (mark₀ mark : List ℕ) (i len : ℕ) : Type 0 where
+  pub asks : Walks k par mark
+  pub same : length mark ≡ length mark₀
+  pub paced : len ≤ i
+  pub short : len ≤ k + 1
+  pub tells : (older : List ℕ) → Marks k mark₀ older → Walking k par row older i len mark
+
+pub walk-start : {k : ℕ} {par : List ℕ} {row i : ℕ} {mark : List ℕ} → Walks k par mark → i ≡ row → Walk k par row mark mark i 0
+walk-start v e = record { asks = v; same = refl; paced = omega arith; short = omega arith; tells = λ older m. rw e (walking-start m) }
+
+module _ {k : ℕ} {par : List ℕ} {row : ℕ} {mark₀ mark : List ℕ} {i len : ℕ} (v : Walk k par row mark₀ mark i len) where
+  module _ (h : i ≤ k) where
+    in-par : i < length par
+    in-par = omega (arith, v .asks .p-long)
+
+    in-mark : i < length mark
+    in-mark = omega (arith, v .asks .m-long)
+
+    -- the parent is higher
+    pub walk-up : i < getD par i 0
+    walk-up = v .asks .above .up i in-par
+
+    pub walk-next : {n : ℕ} → (getD mark i 0 ≡ k + 1 → ⊥) → n ≡ getD par i 0 → Walk k par row mark₀ (set mark i (k + 1)) n (len + 1)
+    walk-next e f =
+        record {
+          asks = record { small = v .asks .small; p-long = v .asks .p-long; m-long = rw length-set (v .asks .m-long); above = v .asks .above };
+          same = length-set mark i (k + 1) ∙ v .same;
+          paced = omega (arith, walk-up, v .paced);
+          short = omega (arith, v .paced);
+          tells = λ older m. walking-next (v .tells older m) h in-mark (v .asks .above) in-par e f;
+        }
+
+    pub walk-seen : getD mark i 0 ≡ k + 1 → (len ≤ k + 1) × ((older : List ℕ) → Marks k mark₀ older → Walked k par row older len mark)
+    walk-seen e = (v .short, λ older m. walking-seen (v .tells older m) h in-mark e)
+
+  pub walk-over : k < i → (len ≤ k + 1) × ((older : List ℕ) → Marks k mark₀ older → Walked k par row older len mark)
+  walk-over h = (v .short, λ older m. walking-over (v .tells older m) h)
+
+-- ---- the same way again
+-- a path is a chain of parents, each at most k
+pub path-chain : (f : ℕ) (par : List ℕ) (k i : ℕ) (seen : List ℕ) → path f par k i seen ≡ chain (length (path f par k i seen)) par i
+unfolding path chain
+path-chain zero par k i seen = refl
+path-chain (suc f) par k i seen = go (decLe i k) (listed-or-not i seen) (path-chain f par k (getD par i root) seen)
+  where
+    go : Dec (i ≤ k) → ((lists i seen ≡ true) × List·Memᴰ i seen) ⊎ ((lists i seen ≡ false) × ¬ List·Memᴰ i seen)
+        → path f par k (getD par i root) seen ≡ chain (length (path f par k (getD par i root) seen)) par (getD par i root) → path (suc f) par k i seen ≡ chain (length (path (suc f) par k i seen)) par i
+    go (no n) d ih = rw (path-over (suc f) par k i seen (omega arith))
+    go (yes l) (inl d) ih = rw (path-seen (suc f) par k i seen l (d .0))
+    go (yes l) (inr d) ih = rw (path-new f par k i seen l (d .0)) (ap (λ (t : List ℕ). i ∷ t) ih)
+
+pub path-most : (f : ℕ) (par : List ℕ) (k i : ℕ) (seen : List ℕ) {x : ℕ} → List·Memᴰ x (path f par k i seen) → x ≤ k
+unfolding path
+path-most zero par k i seen m = absurd (List·Memᴰ·not-nil m)
+path-most (suc f) par k i seen {x} m = go (decLe i k) (listed-or-not i seen) (path-most f par k (getD par i root) seen)
+  where
+    go : Dec (i ≤ k) → ((lists i seen ≡ true) × List·Memᴰ i seen) ⊎ ((lists i seen ≡ false) × ¬ List·Memᴰ i seen) → (List·Memᴰ x (path f par k (getD par i root) seen) → x ≤ k) → x ≤ k
+    go (no n) d ih = absurd (List·Memᴰ·not-nil (rw (path-over (suc f) par k i seen (omega arith)) at m))
+    go (yes l) (inl d) ih = absurd (List·Memᴰ·not-nil (rw (path-seen (suc f) par k i seen l (d .0)) at m))
+    go (yes l) (inr d) ih = elim (List·Memᴰ·cases-cons (rw (path-new f par k i seen l (d .0)) at m)) [ inl e ↦ omega (arith, e) | inr t ↦ ih t ]
+
+pub length-chain : (m : ℕ) (par : List ℕ) (i : ℕ) → length (chain m par i) ≡ m
+unfolding chain
+length-chain zero par i = refl
+length-chain (suc m) par i = ap suc (length-chain m par (getD par i root))
+
+-- the loop of `retrace`: what is written, and what is still to come
+pub record Retracing (par : List ℕ) (row : ℕ) (out₀ out : List ℕ) (i t : ℕ) : Type 0 where
+  pub within : (x : ℕ) → List·Memᴰ x (chain (length out₀) par row) → x < length par
+  pub long : length out ≡ length out₀
+  pub inside : t ≤ length out
+  pub goes : take t out ++ chain (length out - t) par i ≡ chain (length out₀) par row
+
+pub retracing-start : {par : List ℕ} {row : ℕ} {out : List ℕ} → ((x : ℕ) → List·Memᴰ x (chain (length out) par row) → x < length par) → Retracing par row out out row 0
+retracing-start {out = out} h = let z : length out - 0 ≡ length out = omega arith in record { within = h; long = refl; inside = omega arith; goes = rw z }
+
+module _ {par : List ℕ} {row : ℕ} {out₀ out : List ℕ} {i t : ℕ} (v : Retracing par row out₀ out i t) where
+  module _ (h : t < length out) where
+    left : length out - t ≡ suc (length out - (t + 1))
+    left = omega arith
+
+    next : chain (length out - t) par i ≡ i ∷ chain (length out - (t + 1)) par (getD par i root)
+    unfolding chain
+    next = ap (λ (m : ℕ). chain m par i) left
+
+    here : List·Memᴰ i (chain (length out₀) par row)
+    here = let g = v .goes in let f = rw next at g in rw (← f) (mem (take t out))
+      where
+        mem : (l : List ℕ) → List·Memᴰ i (l ++ (i ∷ chain (length out - (t + 1)) par (getD par i root)))
+        mem [] = List·Memᴰ·head refl
+        mem (x ∷ l) = List·Memᴰ·tail (mem l)
+
+    pub retracing-in : i < length par
+    retracing-in = v .within i here
+
+    pub retracing-turn : {w : ℕ} → w ≡ i → Retracing par row out₀ (set out t i) (getD par w 0) (t + 1)
+    retracing-turn {w = w} e =
+        let n = getD par w 0 in
+        let f : getD par i root ≡ n = getD-any par i root 0 retracing-in ∙ ap (λ (x : ℕ). getD par x 0) (sym e) in
+        let g = v .goes in
+        record {
+          within = v .within;
+          long = length-set out t i ∙ v .long;
+          inside = omega (arith, length-set out t i);
+          goes = rw (length-set out t i, written-more out t i (chain (length out - (t + 1)) par n) h) (rw (next, f) at g);
+        }
+
+  pub retracing-done : length out ≤ t → out ≡ chain (length out₀) par row
+  unfolding chain
+  retracing-done h =
+      let e : length out - t ≡ 0 = omega arith in
+      let g = v .goes in
+      sym (append-nil out) ∙ (rw (take-all t out h, e) at g)
+
+-- ---- row by row
+abbrev pub front : ℕ → List ℕ → ℕ → List ℕ → List ℕ
+front k par i older = way k par i older ++ older
+
+-- what is listed stays
+longer : (k : ℕ) (par rows older : List ℕ) → length older ≤ length (along (front k par) rows older)
+unfolding along
+longer k par [] older = omega arith
+longer k par (i ∷ is) older = omega (arith, longer k par is (front k par i older), length-append (way k par i older) older)
+
+-- the rows below q are done, with `older` listed
+pub record Listing (k : ℕ) (par rows : List ℕ) (mark : List ℕ) (count q : ℕ) : Type 0 where
+  pub older : List ℕ
+  pub is : Along (front k par) rows [] older q
+  pub marks : Marks k mark older
+  pub counts : count ≡ length older
+
+pub listing-start : {k : ℕ} {par : List ℕ} (rows : List ℕ) {mark : List ℕ} → Marks k mark [] → Listing k par rows mark 0 0
+listing-start {k = k} {par = par} rows v = record { older = []; is = along-start (front k par) rows []; marks = v; counts = refl }
+
+module _ {k : ℕ} {par rows mark : List ℕ} {count q : ℕ} (v : Listing k par rows mark count q) where
+  module _ {row len : ℕ} {mark1 : List ℕ} (h : q < length rows) (e : row ≡ getD rows q 0) (w : Walked k par row (v .older) len mark1) where
+    turned : Along (front k par) rows [] (front k par row (v .older)) (q + 1)
+    turned = along-turn (front k par) rows 0 (v .is) h (ap (λ (r : ℕ). front k par r (v .older)) e)
+
+    pub listing-turn : {c : ℕ} → c ≡ count + len → Listing k par rows mark1 c (q + 1)
+    listing-turn f =
+        record {
+          older = front k par row (v .older);
+          is = turned;
+          marks = w .marks;
+          counts = omega (arith, length-append (way k par row (v .older)) (v .older), w .is, v .counts);
+        }
+
+    -- there is room for the new path
+    pub listing-room : count + len ≤ length (paths par k rows [])
+    unfolding paths
+    listing-room =
+        omega (arith, ap length (turned .rest), longer k par (drop (q + 1) rows) (front k par row (v .older)), length-append (way k par row (v .older)) (v .older), w .is, v .counts)
+
+  pub listing-done : length rows ≤ q → (count ≡ length (paths par k rows [])) × Marks k mark (paths par k rows [])
+  unfolding paths
+  listing-done h = let e = along-end (front k par) rows (v .is) h in (rw (← e) (v .counts), rw (← e) (v .marks))
+
+  pub listing-all : length rows ≤ q → v .older ≡ paths par k rows []
+  unfolding paths
+  listing-all h = along-end (front k par) rows (v .is) h
+
+-- the loop of `column_length`
+pub record Tallying (k : ℕ) (par rows mark₀ mark : List ℕ) (count q : ℕ) : Type 0 where
+  pub asks : Walks k par mark
+  pub same : length mark ≡ length mark₀
+  pub fits : count ≤ q * 65536
+  pub is : Listing k par rows mark count q
+
+pub tallying-start : {k : ℕ} {par : List ℕ} (rows : List ℕ) {mark : List ℕ} → Walks k par mark → Marks k mark [] → Tallying k par rows mark mark 0 0
+tallying-start rows v m = record { asks = v; same = refl; fits = omega arith; is = listing-start rows m }
+
+-- a slice of marks comes back as long as it was
+walks-on : {k : ℕ} {par mark mark1 : List ℕ} → Walks k par mark → length mark1 ≡ length mark → Walks k par mark1
+walks-on v e = record { small = v .small; p-long = v .p-long; m-long = omega (arith, v .m-long, e); above = v .above }
+
+pub tallying-turn : {k : ℕ} {par rows mark₀ mark mark1 : List ℕ} {count q len : ℕ} → Tallying k par rows mark₀ mark count q → q < length rows → length mark1 ≡ length mark
+    → (len ≤ k + 1) × ((older : List ℕ) → Marks k mark older → Walked k par (getD rows q 0) older len mark1) → Tallying k par rows mark₀ mark1 (count + len) (q + 1)
+tallying-turn v h e w =
+    record {
+      asks = walks-on (v .asks) e;
+      same = e ∙ v .same;
+      fits = omega (arith, v .fits, v .asks .small, w .0);
+      is = listing-turn (v .is) h refl (w .1 (v .is .older) (v .is .marks)) refl;
+    }
+
+-- the loop of `reach`
+pub record Reaching (k : ℕ) (par rows mark₀ mark out₀ out : List ℕ) (top q : ℕ) : Type 0 where
+  pub asks : Walks k par mark
+  pub same : length mark ≡ length mark₀
+  pub long : length out ≡ length out₀
+  pub room : length out ≡ length (paths par k rows [])
+  pub count : ℕ
+  pub rest : top + count ≡ length out
+  pub is : Listing k par rows mark count q
+  pub back : drop top out ≡ is .older
+
+pub reaching-start : {k : ℕ} {par : List ℕ} (rows : List ℕ) {mark : List ℕ} (out : List ℕ) → Walks k par mark → Marks k mark [] → length out ≡ length (paths par k rows []) → Reaching k par rows mark mark out out (length out) 0
+unfolding listing-start
+reaching-start rows out v m e =
+    record {
+      asks = v;
+      same = refl;
+      long = refl;
+      room = e;
+      count = 0;
+      rest = omega arith;
+      is = listing-start rows m;
+      back = drop-length out;
+    }
+
+module _ {k : ℕ} {par rows mark₀ mark out₀ out : List ℕ} {top q : ℕ} (v : Reaching k par rows mark₀ mark out₀ out top q) where
+  module _ {len : ℕ} {mark1 : List ℕ} (h : q < length rows) (e : length mark1 ≡ length mark) (w : (len ≤ k + 1) × ((older : List ℕ) → Marks k mark older → Walked k par (getD rows q 0) older len mark1)) where
+    walked : Walked k par (getD rows q 0) (v .is .older) len mark1
+    walked = w .1 (v .is .older) (v .is .marks)
+
+    -- there is room
+    pub reaching-room : len ≤ top
+    reaching-room = omega (arith, listing-room (v .is) h refl walked, v .rest, v .room)
+
+    pub reaching-end : top ≤ length out
+    reaching-end = omega (arith, v .rest)
+
+    -- the part that is lent
+    pub reaching-part : length (part (top - len) top out) ≡ len
+    reaching-part = length-part (top - len) top out reaching-end ∙ (let z : top - (top - len) ≡ len = omega (arith, reaching-room) in z)
+
+    same-way : (m : ℕ) → m ≡ len → chain m par (getD rows q 0) ≡ way k par (getD rows q 0) (v .is .older)
+    same-way m f = ap (λ (x : ℕ). chain x par (getD rows q 0)) (f ∙ walked .is) ∙ sym (path-chain (suc k) par k (getD rows q 0) (v .is .older))
+
+    -- what `retrace` asks of the part that is lent, and what comes back
+    pub reaching-within : (m : ℕ) → m ≡ len → (x : ℕ) → List·Memᴰ x (chain m par (getD rows q 0)) → x < length par
+    reaching-within m f x t = omega (arith, path-most (suc k) par k (getD rows q 0) (v .is .older) (rw (same-way m f) at t), v .asks .p-long)
+
+    pub reaching-turn : {low m : ℕ} {ys : List ℕ} → low ≡ top - len → m ≡ len → ys ≡ chain m par (getD rows q 0) → Reaching k par rows mark₀ mark1 out₀ (placed low top out ys) low (q + 1)
+    unfolding listing-turn
+    reaching-turn {low = low} {m = m} {ys = ys} a f g =
+        let l : length ys ≡ top - low = rw g (omega (arith, length-chain m par (getD rows q 0), reaching-room)) in
+        let b : drop (top - low) (drop low out) ≡ drop top out = drop-drop (top - low) low out ∙ ap (λ (n : ℕ). drop n out) (let z : low + (top - low) ≡ top = omega (arith, reaching-room) in z) in
+        let i = length-placed low top out ys (omega (arith, reaching-room)) reaching-end l in
+        record {
+          asks = walks-on (v .asks) e;
+          same = e ∙ v .same;
+          long = i ∙ v .long;
+          room = i ∙ v .room;
+          count = v .count + len;
+          rest = omega (arith, i, v .rest, reaching-room);
+          is = listing-turn (v .is) h refl walked refl;
+          back = drop-at (take low out) (ys ++ drop (top - low) (drop low out)) low (length-take-le low out (omega (arith, v .rest, reaching-room))) ∙ ap (λ (t : List ℕ). ys ++ t) (b ∙ v .back) ∙ ap (λ (t : List ℕ). t ++ v .is .older) (g ∙ same-way m f);
+        }
+
+  pub reaching-done : length rows ≤ q → (out ≡ paths par k rows []) × Marks k mark out
+  reaching-done h =
+      let d = listing-done (v .is) h in
+      let z : top ≡ 0 = omega (arith, d .0, v .rest, v .room) in
+      let b = v .back in
+      let o : out ≡ paths par k rows [] = (rw z at b) ∙ listing-all (v .is) h in
+      (o, rw o (d .1))

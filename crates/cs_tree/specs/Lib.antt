@@ -1,0 +1,4 @@
+pub mod Tree
+pub mod Pattern
+pub mod Least
+pub mod Steps
