@@ -15,3 +15,6 @@ pub mod Laying
 pub mod Members
 pub mod Passing
 pub mod Placing
+pub mod Choices
+pub mod Pairs
+pub mod Chosen

@@ -5,3 +5,4 @@ pub mod Tables
 pub mod Keys
 pub mod Sums
 pub mod Calls
+pub mod Choices

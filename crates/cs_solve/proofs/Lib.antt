@@ -1,0 +1,5 @@
+pub mod Columns
+pub mod Diagonals
+pub mod Steps
+pub mod Turns
+pub mod Ways

@@ -1,0 +1,4 @@
+pub mod Diagonal
+pub mod Judge
+pub mod Solve
+pub mod TrSolve

@@ -1,0 +1,194 @@
+-- The loops over the marked columns. Assumes nothing.
+use mathlib.Core.Path.{_≡_, refl, sym, ap, _∙_}
+use mathlib.Core.Bool.{Bool, true, false, not, _&&_}
+use mathlib.Core.List.{List, [], _∷_, _++_, map}
+use mathlib.Core.Logic.{_⊎_}
+use Prim.Native.Nat.{ℕ, zero, suc, _+_, _≤_, _<_}
+use native.Mathlib.Omega.{arith}
+use lib.Dec.{eqb}
+use lib.Ieee.{Float, nan, eq}
+use lib.ListN.{length, getD, set, length-append, length-map, length-set}
+use lib.Seq.{set-out}
+use borrow.Author.Tests.{eq-eqb, ne-eqb}
+use Rattle.lists.specs.Calls.{onto, none}
+use Rattle.lists.specs.Choices.{chosen, keep, firstOr, Found}
+use Rattle.lists.specs.Folds.{along, over}
+use Rattle.lists.specs.Parts.{part}
+use Rattle.lists.proofs.Bools.{and-true}
+use Rattle.lists.proofs.Choices.{chosen-more, chosen-same, Upward, upward-start, upward-turn, upward-found, upward-end}
+use Rattle.lists.proofs.Pairs.{Paired, paired-start, paired-turn, paired-end}
+use Rattle.lists.proofs.Parts.{onto-more, onto-none, length-onto}
+use Rattle.cs_matrix.specs.Matrix.{Matrix, matrix, Valid}
+use Rattle.cs_solve.specs.Diagonal.{valueAt, lacking}
+use Rattle.cs_solve.specs.Solve.{forwardAt, forwardColumn}
+use Rattle.cs_solve.proofs.Columns.{Handed, diagonal-is}
+use Rattle.cs_solve.proofs.Diagonals.{lacking-is}
+use Rattle.cs_solve.proofs.Steps.{length-forwardColumn}
+use Rattle.cs_solve.proofs.Turns.{forward-step}
+use Rattle.cs_solve_cs.specs.SolveCs.{putAt}
+use Rattle.cs_solve_cs.specs.Steps.{marked, marks, Room}
+use Rattle.lists.proofs.Chosen.{along-more, map-more, keep-chosen, chosen-grows, chosen-within}
+
+-- ---- a mark read
+module _ (w : List ℕ) (j : ℕ) where
+  pub is-marked : (getD w j 0 ≡ 0 → ⊥) → marked w j ≡ true
+  is-marked t = rw (ne-eqb (getD w j 0) 0 t)
+
+  pub not-marked : getD w j 0 ≡ 0 → marked w j ≡ false
+  not-marked t = rw (eq-eqb (getD w j 0) 0 t)
+
+-- ---- the search for a marked column that lacks its diagonal
+abbrev pub bad : Matrix → List ℕ → ℕ → Bool
+bad a w j = marked w j && lacking a j
+
+bad-marked : (a : Matrix) (w : List ℕ) (j : ℕ) (t : Bool) → (getD w j 0 ≡ 0 → ⊥) → lacking a j ≡ t → bad a w j ≡ t
+bad-marked a w j t h e = rw (is-marked w j h) e
+
+bad-not : (a : Matrix) (w : List ℕ) (j : ℕ) → getD w j 0 ≡ 0 → bad a w j ≡ false
+bad-not a w j h = rw (not-marked w j h)
+
+-- the search for the first such column
+pub record Seeking (n : ℕ) (p i : List ℕ) (v : List Float) (w : List ℕ) (j : ℕ) : Type 0 where
+  pub up : Upward n (bad (matrix n n p i v) w) j
+
+pub seeking-start : (n : ℕ) (p i : List ℕ) (v : List Float) (w : List ℕ) → Seeking n p i v w 0
+seeking-start n p i v w = record { up = upward-start n (bad (matrix n n p i v) w) }
+
+module _ {n : ℕ} {p i : List ℕ} {v : List Float} {w : List ℕ} {j : ℕ} (s : Seeking n p i v w j) where
+  abbrev a : Matrix
+  a = matrix n n p i v
+
+  abbrev bads : List ℕ
+  bads = keep (lacking a) (marks n w)
+
+  found-kept : {r : ℕ} → Found n (chosen n (bad a w)) (firstOr 0 (chosen n (bad a w))) r → Found n bads (firstOr 0 bads) r
+  unfolding marks
+  found-kept f = rw (keep-chosen n (lacking a) (marked w)) f
+
+  lacks : (t : Bool) → (getD w j 0 ≡ 0 → ⊥) → {b e : ℕ} {d : Float} → Handed p i v j b e → d ≡ valueAt j (part b e i) (part b e v) → eq d none ≡ t → bad a w j ≡ t
+  lacks t h c q u = bad-marked a w j t h (lacking-is a j (diagonal-is n n c q) u)
+
+  pub seeking-found : j < n → (getD w j 0 ≡ 0 → ⊥) → {b e : ℕ} {d : Float} → Handed p i v j b e → d ≡ valueAt j (part b e i) (part b e v) → eq d none ≡ true → Found n bads (firstOr 0 bads) j
+  seeking-found g h c q u = found-kept (upward-found (s .up) g (lacks true h c q u))
+
+  pub seeking-on : j < n → (getD w j 0 ≡ 0 → ⊥) → {b e : ℕ} {d : Float} → Handed p i v j b e → d ≡ valueAt j (part b e i) (part b e v) → eq d none ≡ false → Seeking n p i v w (j + 1)
+  seeking-on g h c q u = record { up = upward-turn (s .up) g (lacks false h c q u) }
+
+  pub seeking-off : j < n → getD w j 0 ≡ 0 → Seeking n p i v w (j + 1)
+  seeking-off g h = record { up = upward-turn (s .up) g (bad-not a w j h) }
+
+  pub seeking-end : n ≤ j → Found n bads (firstOr 0 bads) j
+  seeking-end g = found-kept (upward-end (s .up) g)
+
+-- ---- the values put at their rows
+pub record Putting (rows : List ℕ) (vals x₀ x : List Float) (k : ℕ) : Type 0 where
+  pub long : length x ≡ length x₀
+  pub rest : Paired putAt rows vals x₀ x k
+
+pub putting-start : (rows : List ℕ) (vals x : List Float) → Putting rows vals x x 0
+putting-start rows vals x = record { long = refl; rest = paired-start putAt rows vals x }
+
+module _ {rows : List ℕ} {vals x₀ x : List Float} {k : ℕ} (v : Putting rows vals x₀ x k) (g : k < length rows) (h : k < length vals) {r : ℕ} (e : r ≡ getD rows k 0) where
+  pub putting-set : Putting rows vals x₀ (set x r (getD vals k nan)) (k + 1)
+  putting-set = record { long = length-set x r (getD vals k nan) ∙ v .long; rest = paired-turn putAt rows vals 0 nan (v .rest) g h (rw e) }
+
+  pub putting-out : length x ≤ r → Putting rows vals x₀ x (k + 1)
+  putting-out l = record { long = v .long; rest = paired-turn putAt rows vals 0 nan (v .rest) g h (sym (set-out x r (getD vals k nan) l) ∙ (rw e)) }
+
+-- ---- the forward steps
+pub record Forwarding (n : ℕ) (p i : List ℕ) (v : List Float) (w : List ℕ) (x₀ x : List Float) (j : ℕ) : Type 0 where
+  pub within : j ≤ n
+  pub long : length x ≡ length x₀
+  pub is : x ≡ along (forwardColumn (matrix n n p i v)) (chosen j (marked w)) x₀
+
+pub forwarding-start : (n : ℕ) (p i : List ℕ) (v : List Float) (w : List ℕ) (x : List Float) → Forwarding n p i v w x x 0
+unfolding chosen along
+forwarding-start n p i v w x = record { within = omega arith; long = refl; is = refl }
+
+module _ {n : ℕ} {p i : List ℕ} {v : List Float} {w : List ℕ} {x₀ x : List Float} {j : ℕ} (f : Forwarding n p i v w x₀ x j) (h : j < n) where
+  pub forwarding-on : {s e : ℕ} {d : Float} {x' : List Float} → (getD w j 0 ≡ 0 → ⊥) → Handed p i v j s e → d ≡ valueAt j (part s e i) (part s e v)
+      → x' ≡ forwardAt j d (part s e i) (part s e v) x → Forwarding n p i v w x₀ x' (j + 1)
+  forwarding-on t b q u =
+      let a = matrix n n p i v in
+      let c = forward-step n n x b q u in
+      record {
+        within = omega arith;
+        long = ap length c ∙ length-forwardColumn a j x ∙ f .long;
+        is = rw (chosen-more j (marked w) (is-marked w j t), along-more (forwardColumn a) (chosen j (marked w)) j x₀, ← f .is) c;
+      }
+
+  pub forwarding-off : getD w j 0 ≡ 0 → Forwarding n p i v w x₀ x (j + 1)
+  forwarding-off t = record { within = omega arith; long = f .long; is = rw (chosen-same j (marked w) (not-marked w j t)) (f .is) }
+
+pub forwarding-end : {n : ℕ} {p i : List ℕ} {v : List Float} {w : List ℕ} {x₀ x : List Float} {j : ℕ} → Forwarding n p i v w x₀ x j → n ≤ j → x ≡ along (forwardColumn (matrix n n p i v)) (marks n w) x₀
+unfolding marks
+forwarding-end {n} {j = j} f h = let e : j ≡ n = omega (arith, f .within) in let q = f .is in rw e at q
+
+-- ---- the result
+abbrev pub valuesOf : List Float → List ℕ → List Float
+valuesOf x l = map (λ (j : ℕ). getD x j nan) l
+
+pub record Gathering (n : ℕ) (w : List ℕ) (x : List Float) (xi₀ : List ℕ) (xv₀ : List Float) (xi : List ℕ) (xv : List Float) (at j : ℕ) : Type 0 where
+  pub ask : Room n w x xi₀ xv₀
+  pub within : j ≤ n
+  pub count : at ≡ length (chosen j (marked w))
+  pub rows : xi ≡ onto xi₀ (chosen j (marked w))
+  pub vals : xv ≡ onto xv₀ (valuesOf x (chosen j (marked w)))
+
+pub gathering-start : {n : ℕ} {w : List ℕ} {x : List Float} {xi : List ℕ} {xv : List Float} → Room n w x xi xv → Gathering n w x xi xv xi xv 0 0
+unfolding chosen
+gathering-start {xi = xi} {xv = xv} ask = record { ask = ask; within = omega arith; count = refl; rows = onto-none xi; vals = onto-none xv }
+
+module _ {n : ℕ} {w : List ℕ} {x : List Float} {xi₀ : List ℕ} {xv₀ : List Float} {xi : List ℕ} {xv : List Float} {at j : ℕ} (g : Gathering n w x xi₀ xv₀ xi xv at j) where
+  abbrev l : List ℕ
+  l = chosen j (marked w)
+
+  abbrev l' : List Float
+  l' = valuesOf x (chosen j (marked w))
+
+  at-least : length l ≤ length (marks n w)
+  unfolding marks
+  at-least = chosen-grows (marked w) j n (g .within)
+
+  pub i-long : length xi ≡ length xi₀
+  i-long = ap length (g .rows) ∙ length-onto xi₀ l (omega (arith, at-least, g .ask .in-i))
+
+  pub v-long : length xv ≡ length xv₀
+  v-long = ap length (g .vals) ∙ length-onto xv₀ l' (omega (arith, at-least, g .ask .in-v, length-map l (λ (k : ℕ). getD x k nan)))
+
+  module _ (h : j < n) (t : getD w j 0 ≡ 0 → ⊥) where
+    more : chosen (j + 1) (marked w) ≡ l ++ (j ∷ [])
+    more = chosen-more j (marked w) (is-marked w j t)
+
+    room : length l + 1 ≤ length (marks n w)
+    unfolding marks
+    room = omega (arith, chosen-grows (marked w) (j + 1) n (omega arith), ap length more, length-append l (j ∷ []))
+
+    pub at-in-i : at < length xi
+    at-in-i = omega (arith, room, g .count, g .ask .in-i, i-long)
+
+    pub at-in-v : at < length xv
+    at-in-v = omega (arith, room, g .count, g .ask .in-v, v-long)
+
+    pub at-small : at < 65535
+    at-small = omega (arith, g .count, chosen-within (marked w) j, g .ask .small)
+
+    pub gathering-on : Gathering n w x xi₀ xv₀ (set xi at j) (set xv at (getD x j nan)) (at + 1) (j + 1)
+    gathering-on =
+        let len = length-map l (λ (k : ℕ). getD x k nan) in
+        record {
+          ask = g .ask;
+          within = omega arith;
+          count = rw (more, length-append l (j ∷ []), ← g .count);
+          rows = rw (more, g .rows, g .count) (onto-more xi₀ l j (omega (arith, room, g .ask .in-i)));
+          vals = rw (more, map-more (λ (k : ℕ). getD x k nan) l j, g .vals, g .count, ← len) (onto-more xv₀ l' (getD x j nan) (omega (arith, room, g .ask .in-v)));
+        }
+
+  pub gathering-off : j < n → getD w j 0 ≡ 0 → Gathering n w x xi₀ xv₀ xi xv at (j + 1)
+  gathering-off h t =
+      let e = chosen-same j (marked w) (not-marked w j t) in
+      record { ask = g .ask; within = omega arith; count = rw e (g .count); rows = rw e (g .rows); vals = rw e (g .vals) }
+
+  pub gathering-end : n ≤ j → (xi ≡ onto xi₀ (marks n w)) × (xv ≡ onto xv₀ (valuesOf x (marks n w)))
+  unfolding marks
+  gathering-end h = let e : j ≡ n = omega (arith, g .within) in let a = g .rows in let b = g .vals in (rw e at a, rw e at b)

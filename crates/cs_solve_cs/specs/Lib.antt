@@ -1,0 +1,4 @@
+pub mod Reach
+pub mod SolveCs
+pub mod Agree
+pub mod Steps

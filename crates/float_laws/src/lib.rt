@@ -1,0 +1,1 @@
+// No code: definitions in specs/ and laws in proofs/ on the values that f64 holds.
