@@ -1,5 +1,5 @@
 -- A column of a valid matrix, handed on as the part between its two pointers. Assumes nothing.
-use mathlib.Core.Path.{_≡_, refl, sym, ap, _∙_}
+use mathlib.Core.Path.{_≡_, sym, _∙_}
 use mathlib.Core.List.{List}
 use Prim.Native.Nat.{ℕ, _+_, _-_, _≤_, _<_}
 use native.Mathlib.Omega.{arith}
@@ -8,7 +8,7 @@ use lib.ListN.{length, getD}
 use Rattle.lists.specs.Parts.{part}
 use Rattle.lists.proofs.Parts.{length-part, getD-part}
 use Rattle.cs_matrix.specs.Matrix.{matrix, Valid, column}
-use Rattle.cs_matrix.proofs.Pointers.{Between, between, column-is}
+use Rattle.cs_matrix.proofs.Pointers.{between, column-is}
 use Rattle.cs_solve.specs.Diagonal.{valueAt, diagonal}
 
 -- a valid square matrix, by the dimension that it has
@@ -26,9 +26,6 @@ pub record Handed (p i : List ℕ) (v : List Float) (j s e : ℕ) : Type 0 where
 module _ {m n : ℕ} {p i : List ℕ} {v : List Float} (a : Valid (matrix m n p i v)) {j : ℕ} (h : j < n) where
   pub j-small : j < 65535
   j-small = omega (arith, a .pattern .cols)
-
-  pub j-in-p : j + 1 < length p
-  j-in-p = omega (arith, a .pattern .p-long)
 
   pub handed : {s e : ℕ} → s ≡ getD p j 0 → e ≡ getD p (j + 1) 0 → Handed p i v j s e
   handed f g =

@@ -13,7 +13,7 @@ use borrow.Author.Tests.{lt-ltb, le-ltb}
 use Rattle.lists.specs.Folds.{over}
 use Rattle.lists.proofs.Bools.{le-or-lt}
 use Rattle.lists.proofs.Folds.{Over, over-start, over-turn, over-end}
-use Rattle.lists.proofs.Pairs.{Paired, paired-start, paired-turn, paired-end}
+use Rattle.lists.proofs.Pairs.{Paired, paired-start, paired-turn}
 use Rattle.cs_matrix.specs.Matrix.{Matrix}
 use Rattle.cs_solve.specs.Solve.{lowerAt, forwardAt, forwardColumn}
 use Rattle.cs_solve.specs.TrSolve.{raiseAt, transposedAt, Column}

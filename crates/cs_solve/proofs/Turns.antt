@@ -1,15 +1,15 @@
 -- The loops over the columns. Assumes nothing.
-use mathlib.Core.Path.{_≡_, refl, sym, ap, _∙_}
+use mathlib.Core.Path.{_≡_, refl, ap, _∙_}
 use mathlib.Core.List.{List}
 use Prim.Native.Nat.{ℕ, _+_, _-_, _≤_, _<_}
 use native.Mathlib.Omega.{arith}
 use lib.Ieee.{Float}
 use lib.ListN.{length}
-use Rattle.lists.specs.Folds.{turns, falls}
+use Rattle.lists.specs.Folds.{turns}
 use Rattle.lists.specs.Parts.{part}
 use Rattle.lists.proofs.Folds.{turns-none, turns-more, turns-end, Falls, falls-start, falls-turn, falls-end}
 use Rattle.cs_matrix.specs.Matrix.{matrix, Valid}
-use Rattle.cs_solve.specs.Diagonal.{valueAt, diagonal}
+use Rattle.cs_solve.specs.Diagonal.{valueAt}
 use Rattle.cs_solve.specs.Solve.{forwardAt, forwardColumn, forward}
 use Rattle.cs_solve.specs.TrSolve.{transposedAt, transposedColumn, transposed, Column}
 use Rattle.cs_solve.proofs.Columns.{Handed, diagonal-is, part-alike, part-below}

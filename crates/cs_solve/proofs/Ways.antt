@@ -1,8 +1,8 @@
 -- What a dense solve answers and leaves, at each of its ways out. Assumes nothing.
-use mathlib.Core.Path.{_≡_, refl, sym, ap, _∙_}
-use mathlib.Core.Bool.{Bool, true, false, not, cond, _||_}
+use mathlib.Core.Path.{_≡_, refl, sym, _∙_}
+use mathlib.Core.Bool.{Bool, true, false, not, _||_}
 use mathlib.Core.List.{List, [], _∷_}
-use Prim.Native.Nat.{ℕ, _+_, _≤_, _<_}
+use Prim.Native.Nat.{ℕ, _≤_, _<_}
 use native.Mathlib.Omega.{arith}
 use lib.Dec.{eqb}
 use lib.Ieee.{Float}
@@ -13,7 +13,7 @@ use Rattle.lists.specs.Choices.{some, Found}
 use Rattle.lists.proofs.Bools.{or-false, not-holds, passed-over}
 use Rattle.lists.proofs.Calls.{Early, From, below-7, first, then, lowest-both, lower-alone, lower-none}
 use Rattle.cs_matrix.specs.Matrix.{Matrix, matrix, judgedPattern, judged, Valid}
-use Rattle.cs_matrix.proofs.Refusing.{from-pattern, from-disagree}
+use Rattle.cs_matrix.proofs.Refusing.{from-disagree}
 use Rattle.cs_matrix.proofs.Validity.{valid}
 use Rattle.cs_solve.specs.Judge.{judgedSolve, lackingColumns, number, answer}
 use Rattle.cs_solve.specs.declared.Solved.{Solved}

@@ -2,3 +2,4 @@ pub mod Diagonal
 pub mod Judge
 pub mod Solve
 pub mod TrSolve
+pub mod Cases

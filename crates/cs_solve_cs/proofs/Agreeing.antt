@@ -1,11 +1,11 @@
 -- The sparse solve agrees with the dense one of the same right side. Assumes nothing.
-use mathlib.Core.Path.{_≡_, refl, sym, ap, _∙_}
-use mathlib.Core.Bool.{Bool, true, false, cond, true≢false}
+use mathlib.Core.Path.{_≡_, refl, _∙_}
+use mathlib.Core.Bool.{Bool, true, false, cond}
 use mathlib.Core.List.{List, [], _∷_, _++_, map, append-nil, List·Memᴰ, List·Memᴰ·head, List·Memᴰ·tail}
-use mathlib.Core.Logic.{_⊎_, inl, inr, ⊎-elim}
+use mathlib.Core.Logic.{_⊎_, inl, ⊎-elim}
 use Prim.Native.Nat.{ℕ, zero, suc, _+_, _≤_, _<_}
 use native.Mathlib.Omega.{arith}
-use lib.Dec.{T, ltb, eqb}
+use lib.Dec.{T}
 use lib.Ieee.{Float, nan, binary64, ofBits, sub, mul, div, fits}
 use lib.Ieee.Fits.{sub-fits, mul-fits, div-fits}
 use lib.ListN.{length, getD, set, replicate, length-set, length-replicate, getD-replicate}
@@ -17,8 +17,8 @@ use Rattle.lists.specs.Folds.{turns, along, over}
 use Rattle.lists.specs.Order.{lists}
 use Rattle.lists.proofs.Bools.{le-or-lt, eq-or-ne, not-both}
 use Rattle.lists.proofs.Ordering.{lists-mean, member-lists}
-use Rattle.cs_matrix.specs.Matrix.{Matrix, matrix, pattern, Vector, vector, Valid, ValidVector, column}
-use Rattle.float_laws.specs.Zeros.{Zero, Alike, finite}
+use Rattle.cs_matrix.specs.Matrix.{Matrix, matrix, pattern, vector, Valid, ValidVector, column}
+use Rattle.float_laws.specs.Zeros.{Zero, Alike}
 use Rattle.float_laws.proofs.Zeros.{alike-sym, zero-alike, alike-trans, mul-zero, mul-alike, div-zero, div-alike, sub-zero, sub-alike, is-zero, fits-zero}
 use Rattle.cs_solve.specs.Diagonal.{diagonal, lacking}
 use Rattle.cs_solve.specs.Solve.{lowerAt, forwardAt, forwardColumn, forward}
@@ -26,7 +26,7 @@ use Rattle.cs_solve_cs.specs.Agree.{Harmless, Agrees}
 use Rattle.cs_solve_cs.specs.Reach.{reached}
 use Rattle.cs_solve_cs.specs.SolveCs.{putAt, right, steps, solution}
 use Rattle.lists.proofs.Chosen.{along-more, chosen-member, member-chosen}
-use Rattle.cs_solve_cs.proofs.Least.{member-below, row-below, hit-row, hit-stored}
+use Rattle.cs_solve_cs.proofs.Least.{row-below, hit-row, hit-stored}
 use Rattle.cs_solve_cs.proofs.Reaching.{reaches, below-is}
 
 -- ---- two folds side by side

@@ -1,21 +1,21 @@
 -- The listed set is the least one that holds the rows and, with j, each stored row above j in number in column j. Assumes nothing.
-use mathlib.Core.Path.{_≡_, refl, sym, ap, _∙_}
-use mathlib.Core.Bool.{Bool, true, false, _&&_, _||_}
+use mathlib.Core.Path.{_≡_, refl}
+use mathlib.Core.Bool.{Bool, true, false, _||_}
 use mathlib.Core.List.{List, [], _∷_, List·Memᴰ, List·Memᴰ·not-nil, List·Memᴰ·cases-cons}
 use mathlib.Core.Logic.{⊎-elim}
-use Prim.Native.Nat.{ℕ, zero, suc, _+_, _-_, _≤_, _<_}
+use Prim.Native.Nat.{ℕ, zero, suc, _+_, _-_, _<_}
 use native.Mathlib.Omega.{arith}
 use lib.Dec.{ltb}
 use lib.ListN.{length, getD}
 use borrow.Author.Tests.{lt-ltb, ltb-true}
-use Rattle.lists.specs.Choices.{chosen, someOf}
+use Rattle.lists.specs.Choices.{someOf}
 use Rattle.lists.specs.Order.{lists}
 use Rattle.lists.proofs.Bools.{and-true}
 use Rattle.lists.proofs.Ordering.{lists-mean, member-lists}
 use Rattle.cs_matrix.specs.Matrix.{Pattern, ValidPattern, column}
 use Rattle.cs_matrix.proofs.Pointers.{at-most, length-column, getD-column}
 use Rattle.cs_solve_cs.specs.Reach.{stores, touched, reachedBelow, reached, Reached, given, stored, Closed, Reaches}
-use Rattle.lists.proofs.Chosen.{someOf-member, One, someOf-find, Member, chosen-member, member-chosen, chosen-rising}
+use Rattle.lists.proofs.Chosen.{someOf-member, someOf-find, Member, chosen-member, member-chosen, chosen-rising}
 use Rattle.cs_solve_cs.proofs.Reaching.{reaches, below-is}
 
 -- a member of a list whose places are all below n

@@ -1,13 +1,13 @@
 -- The loop of `reach`: at column m the marks are what the rows and the reached columns below m touch. Assumes nothing.
 use mathlib.Core.Path.{_≡_, refl, sym, ap, _∙_}
-use mathlib.Core.Bool.{Bool, true, false, not, cond, _&&_, _||_}
+use mathlib.Core.Bool.{Bool, true, false, cond, _&&_, _||_}
 use mathlib.Core.List.{List, [], _∷_, _++_, append-nil}
 use mathlib.Core.Logic.{⊎-elim}
 use Prim.Native.Nat.{ℕ, zero, suc, _+_, _≤_, _<_}
 use native.Mathlib.Nat.{eq-or-lt-of-le}
 use native.Mathlib.Numerals.{add-one}
 use native.Mathlib.Omega.{arith}
-use lib.Dec.{ltb, leb, eqb}
+use lib.Dec.{leb}
 use lib.Ieee.{Float}
 use lib.ListN.{length, getD, replicate, length-append, length-replicate, getD-replicate}
 use borrow.Author.Tests.{le-ltb, le-leb, eq-eqb, ne-eqb}

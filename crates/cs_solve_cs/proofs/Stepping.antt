@@ -1,24 +1,21 @@
 -- The loops over the marked columns. Assumes nothing.
 use mathlib.Core.Path.{_≡_, refl, sym, ap, _∙_}
-use mathlib.Core.Bool.{Bool, true, false, not, _&&_}
+use mathlib.Core.Bool.{Bool, true, false, _&&_}
 use mathlib.Core.List.{List, [], _∷_, _++_, map}
-use mathlib.Core.Logic.{_⊎_}
-use Prim.Native.Nat.{ℕ, zero, suc, _+_, _≤_, _<_}
+use Prim.Native.Nat.{ℕ, _+_, _≤_, _<_}
 use native.Mathlib.Omega.{arith}
-use lib.Dec.{eqb}
 use lib.Ieee.{Float, nan, eq}
 use lib.ListN.{length, getD, set, length-append, length-map, length-set}
 use lib.Seq.{set-out}
 use borrow.Author.Tests.{eq-eqb, ne-eqb}
 use Rattle.lists.specs.Calls.{onto, none}
 use Rattle.lists.specs.Choices.{chosen, keep, firstOr, Found}
-use Rattle.lists.specs.Folds.{along, over}
+use Rattle.lists.specs.Folds.{along}
 use Rattle.lists.specs.Parts.{part}
-use Rattle.lists.proofs.Bools.{and-true}
 use Rattle.lists.proofs.Choices.{chosen-more, chosen-same, Upward, upward-start, upward-turn, upward-found, upward-end}
-use Rattle.lists.proofs.Pairs.{Paired, paired-start, paired-turn, paired-end}
+use Rattle.lists.proofs.Pairs.{Paired, paired-start, paired-turn}
 use Rattle.lists.proofs.Parts.{onto-more, onto-none, length-onto}
-use Rattle.cs_matrix.specs.Matrix.{Matrix, matrix, Valid}
+use Rattle.cs_matrix.specs.Matrix.{Matrix, matrix}
 use Rattle.cs_solve.specs.Diagonal.{valueAt, lacking}
 use Rattle.cs_solve.specs.Solve.{forwardAt, forwardColumn}
 use Rattle.cs_solve.proofs.Columns.{Handed, diagonal-is}

@@ -1,19 +1,19 @@
 -- What the sparse solve answers and leaves, at each of its ways out. Assumes nothing.
 use mathlib.Core.Path.{_≡_, refl, sym, ap, _∙_}
 use mathlib.Core.Bool.{Bool, true, false, not, cond, _&&_, _||_}
-use mathlib.Core.List.{List, [], _∷_, _++_, map}
-use Prim.Native.Nat.{ℕ, zero, suc, _+_, _-_, _≤_, _<_, max}
+use mathlib.Core.List.{List, _∷_}
+use Prim.Native.Nat.{ℕ, zero, suc, _+_, _-_, _≤_, _<_}
 use native.Mathlib.Omega.{arith}
 use lib.Dec.{T, ltb, eqb}
 use lib.Ieee.{Float, nan, binary64, fits}
-use lib.ListN.{length, getD, drop, replicate, length-map, length-replicate, length-drop, length-append, getD-replicate}
+use lib.ListN.{length, getD, drop, replicate, length-map, length-replicate, getD-replicate}
 use lib.Seq.{ext-getD, getD-drop, getD-append-add}
-use borrow.Author.Tests.{lt-ltb, le-ltb, ltb-false, eq-eqb, ne-eqb, eqb-true}
+use borrow.Author.Tests.{lt-ltb, le-ltb, eq-eqb, ne-eqb, eqb-true}
 use Rattle.lists.specs.Calls.{lowest, both, disagree, lower, onto, none, Scratch, scratch, narrow, cleared, wiped, Lent, lent, outputs, worked, leaves}
 use Rattle.lists.specs.Choices.{keep, some, firstOr, Found}
 use Rattle.lists.specs.Folds.{along, over}
 use Rattle.lists.specs.Parts.{part, placed}
-use Rattle.lists.proofs.Bools.{or-false, not-holds, passed-over}
+use Rattle.lists.proofs.Bools.{not-holds, passed-over}
 use Rattle.lists.proofs.Calls.{Early, From, below-7, first, then, lowest-both, lower-alone, lower-none, not-narrow, wiped-each, kept}
 use Rattle.lists.proofs.Clearing.{length-cleared, cleared-front, cleared-same, cleared-again}
 use Rattle.lists.proofs.Parts.{length-part, getD-part, length-placed}
@@ -242,9 +242,6 @@ module _ (k n : ℕ) (p i : List ℕ) (v : List Float) (bi : List ℕ) (bv : Lis
         above (suc r) h = omega arith
 
     module _ (h : r ≡ 0) {t : Bool} (f : t ≡ narrow (n + 1) (old .work)) where
-      pub n-small : n ≤ 65535
-      n-small = passed k n p i v bi bv e h .square .pattern .cols
-
       need-is : needed (A .pattern) ≡ n + 1
       unfolding needed
       need-is = omega (arith, passed k n p i v bi bv e h .same)

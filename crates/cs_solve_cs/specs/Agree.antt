@@ -1,10 +1,10 @@
 -- The sparse solve beside the dense one of the same right side. An unreached column divides a zero and subtracts its products:
 -- that leaves every value as it was, but for the sign of a zero, unless its diagonal is zero or NaN or a value below it is not
 -- finite. Assumes nothing.
-use mathlib.Core.Bool.{Bool, true, false}
+use mathlib.Core.Bool.{true, false}
 use mathlib.Core.Path.{_≡_}
 use Prim.Native.Nat.{ℕ, _<_}
-use lib.Ieee.{Float, nan, isNan}
+use lib.Ieee.{nan, isNan}
 use lib.ListN.{length, getD}
 use Rattle.lists.specs.Order.{lists}
 use Rattle.cs_matrix.specs.Matrix.{Matrix, Vector, column}

@@ -1,16 +1,14 @@
-use borrow.Author.Tests.{ltb-true, ltb-false}
+-- `value_at`: the walk of proofs/Diagonals.antt. Assumes nothing.
 use mathlib.Core.Path.{sym, _∙_}
 use mathlib.Core.Logic.{inl, inr}
-use Rattle.cs_solve.proofs.Diagonals.{Looking, looking-start, looking-found, looking-turn, looking-end}
+use Prim.Native.Nat.{_-_}
 use native.Mathlib.Omega.{arith}
 use lib.ListN.{length}
-use Prim.Native.Nat.{_-_}
+use borrow.Author.Tests.{ltb-true, ltb-false}
 use borrow.Author.Needs.{needs}
+use Rattle.cs_solve.proofs.Diagonals.{Looking, looking-start, looking-found, looking-turn, looking-end}
 use Rattle.cs_solve.proofs.diagonal.value_at.Statement.{statement}
 use Rattle.cs_solve.proofs.diagonal.value_at.Tie as tie
-use Rattle.cs_solve.proofs.diagonal.value_at.Reads as reads
-use Rattle.cs_solve.proofs.diagonal.value_at.Lts as lts
-use Rattle.lists.proofs.numbers.wide.Reads as wide-reads
 
 abbrev Inv-loop : tie.InvT-loop
 Inv-loop j rows vals k₀ k = Looking j rows vals k
@@ -18,51 +16,39 @@ Inv-loop j rows vals k₀ k = Looking j rows vals k
 abbrev μ-loop : tie.MeasureT-loop
 μ-loop j rows vals k₀ k = length rows - k
 
--- src/diagonal.rt:11:5
 loop-holds : tie.Need-loop-holds Inv-loop μ-loop
 loop-holds c = looking-start _ _ _
 
--- src/diagonal.rt:12:17
 mul-wide : tie.Need-mul-wide Inv-loop μ-loop
 mul-wide c = search needs
 
--- src/diagonal.rt:12:17
 shared-slice-read-wide : tie.Need-shared-slice-read-wide Inv-loop μ-loop
 shared-slice-read-wide c = search needs
 
--- src/diagonal.rt:12:12
 wide-requires : tie.Need-wide-requires Inv-loop μ-loop
 wide-requires c κs = search needs
 
--- src/diagonal.rt:13:20
 mul-result : tie.Need-mul-result Inv-loop μ-loop
 mul-result c = search needs
 
--- src/diagonal.rt:13:20
 shared-slice-read-result : tie.Need-shared-slice-read-result Inv-loop μ-loop
 shared-slice-read-result c = search needs
 
--- src/diagonal.rt:13:13
 returns : tie.Need-returns Inv-loop μ-loop
 returns c = looking-found _ _ _ (c .before .before .before .before .before .before .loop .inv) (c .before .before .before .before .before .loop-test .taken) (ltb-true _ _ (c .before .before .before .before .if1 .taken)) (sym (c .before .before .wide .ensures .0) ∙ c .before .if2 .taken)
 
--- src/diagonal.rt:15:9
 add-k : tie.Need-add-k Inv-loop μ-loop
 add-k c = search needs
 
--- src/diagonal.rt:11:5
 loop-less : tie.Need-loop-less Inv-loop μ-loop
 loop-less c = omega (arith, c .before .before .before .before .loop-test .taken)
 
--- src/diagonal.rt:11:5
 loop-again : tie.Need-loop-again Inv-loop μ-loop
 loop-again c = looking-turn _ _ _ (c .before .before .before .before .before .loop .inv) (c .before .before .before .before .loop-test .taken) (ltb-true _ _ (c .before .before .before .if1 .taken)) (λ q. c .if2 .left (c .before .wide .ensures .0 ∙ q))
 
--- src/diagonal.rt:7:1
 returns-2 : tie.Need-returns-2 Inv-loop μ-loop
 returns-2 c = looking-end _ _ _ (c .before .before .loop .inv) (inr (ltb-false _ _ (c .if1 .left)))
 
--- src/diagonal.rt:7:1
 returns-3 : tie.Need-returns-3 Inv-loop μ-loop
 returns-3 c = looking-end _ _ _ (c .before .loop .inv) (inl (c .loop-test .left))
 

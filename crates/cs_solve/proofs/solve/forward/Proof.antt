@@ -1,15 +1,11 @@
-use Rattle.cs_solve.proofs.Turns.{Forwarding, forwarding-start, forwarding-turn, forwarding-end}
-use Rattle.cs_solve.proofs.Columns.{Handed, handed, j-small, j-in-p, diagonal-is}
-use native.Mathlib.Omega.{arith}
+-- `forward`: the loop of proofs/Turns.antt. Assumes nothing.
 use Prim.Native.Nat.{_-_}
+use native.Mathlib.Omega.{arith}
 use borrow.Author.Needs.{needs}
+use Rattle.cs_solve.proofs.Turns.{Forwarding, forwarding-start, forwarding-turn, forwarding-end}
+use Rattle.cs_solve.proofs.Columns.{handed}
 use Rattle.cs_solve.proofs.solve.forward.Statement.{statement}
 use Rattle.cs_solve.proofs.solve.forward.Tie as tie
-use Rattle.cs_solve.proofs.solve.forward.Reads as reads
-use Rattle.cs_solve.proofs.solve.forward.Lts as lts
-use Rattle.cs_solve.proofs.diagonal.value_at.Reads as value-at-reads
-use Rattle.cs_solve.proofs.solve.forward_at.Reads as forward-at-reads
-use Rattle.lists.proofs.numbers.wide.Reads as wide-reads
 
 abbrev Inv-loop : tie.InvT-loop
 Inv-loop n p i v b₀ j₀ b j = Forwarding n p i v b₀ b j
@@ -17,127 +13,96 @@ Inv-loop n p i v b₀ j₀ b j = Forwarding n p i v b₀ b j
 abbrev μ-loop : tie.MeasureT-loop
 μ-loop n p i v b₀ j₀ b j = n - j
 
--- src/solve.rt:46:5
 loop-holds : tie.Need-loop-holds Inv-loop μ-loop
 loop-holds c = forwarding-start (c .before .before .before .before .pre) _
 
--- src/solve.rt:47:22
 mul-wide : tie.Need-mul-wide Inv-loop μ-loop
 mul-wide c = search needs
 
--- src/solve.rt:47:22
 shared-slice-read-wide : tie.Need-shared-slice-read-wide Inv-loop μ-loop
 shared-slice-read-wide c = search needs
 
--- src/solve.rt:47:13
 wide-requires : tie.Need-wide-requires Inv-loop μ-loop
 wide-requires c κs = search needs
 
--- src/solve.rt:48:24
 add-wide : tie.Need-add-wide Inv-loop μ-loop
 add-wide c = search needs
 
--- src/solve.rt:48:22
 mul-wide-2 : tie.Need-mul-wide-2 Inv-loop μ-loop
 mul-wide-2 c = search needs
 
--- src/solve.rt:48:22
 shared-slice-read-wide-2 : tie.Need-shared-slice-read-wide-2 Inv-loop μ-loop
 shared-slice-read-wide-2 c = search needs
 
--- src/solve.rt:48:13
 wide-requires-2 : tie.Need-wide-requires-2 Inv-loop μ-loop
 wide-requires-2 c κs = search needs
 
--- src/solve.rt:49:29
 mul-value-at : tie.Need-mul-value-at Inv-loop μ-loop
 mul-value-at c = search needs
 
--- src/solve.rt:49:29
 sub-value-at : tie.Need-sub-value-at Inv-loop μ-loop
 sub-value-at c = (handed (c .before .before .before .before .before .before .before .before .before .before .pre) (c .before .before .before .before .loop-test .taken) (c .before .before .wide .ensures .0) (c .wide2 .ensures .0)) .order
 
--- src/solve.rt:49:29
 part-value-at-start : tie.Need-part-value-at-start Inv-loop μ-loop
 part-value-at-start c = (handed (c .before .before .before .before .before .before .before .before .before .before .pre) (c .before .before .before .before .loop-test .taken) (c .before .before .wide .ensures .0) (c .wide2 .ensures .0)) .order
 
--- src/solve.rt:49:29
 part-value-at-end : tie.Need-part-value-at-end Inv-loop μ-loop
 part-value-at-end c = (handed (c .before .before .before .before .before .before .before .before .before .before .pre) (c .before .before .before .before .loop-test .taken) (c .before .before .wide .ensures .0) (c .wide2 .ensures .0)) .inside
 
--- src/solve.rt:49:39
 mul-value-at-2 : tie.Need-mul-value-at-2 Inv-loop μ-loop
 mul-value-at-2 c = search needs
 
--- src/solve.rt:49:39
 sub-value-at-2 : tie.Need-sub-value-at-2 Inv-loop μ-loop
 sub-value-at-2 c = (handed (c .before .before .before .before .before .before .before .before .before .before .before .pre) (c .before .before .before .before .before .loop-test .taken) (c .before .before .before .wide .ensures .0) (c .before .wide2 .ensures .0)) .order
 
--- src/solve.rt:49:39
 part-value-at-start-2 : tie.Need-part-value-at-start-2 Inv-loop μ-loop
 part-value-at-start-2 c = (handed (c .before .before .before .before .before .before .before .before .before .before .before .pre) (c .before .before .before .before .before .loop-test .taken) (c .before .before .before .wide .ensures .0) (c .before .wide2 .ensures .0)) .order
 
--- src/solve.rt:49:39
 part-value-at-end-2 : tie.Need-part-value-at-end-2 Inv-loop μ-loop
 part-value-at-end-2 c = (handed (c .before .before .before .before .before .before .before .before .before .before .before .pre) (c .before .before .before .before .before .loop-test .taken) (c .before .before .before .wide .ensures .0) (c .before .wide2 .ensures .0)) .inside-v
 
--- src/solve.rt:49:13
 value-at-requires : tie.Need-value-at-requires Inv-loop μ-loop
 value-at-requires c κs = search needs
 
--- src/solve.rt:50:26
 mul-forward-at : tie.Need-mul-forward-at Inv-loop μ-loop
 mul-forward-at c = search needs
 
--- src/solve.rt:50:26
 sub-forward-at : tie.Need-sub-forward-at Inv-loop μ-loop
 sub-forward-at c = (handed (c .before .before .before .before .before .before .before .before .before .before .before .before .before .pre) (c .before .before .before .before .before .before .before .loop-test .taken) (c .before .before .before .before .before .wide .ensures .0) (c .before .before .before .wide2 .ensures .0)) .order
 
--- src/solve.rt:50:26
 part-forward-at-start : tie.Need-part-forward-at-start Inv-loop μ-loop
 part-forward-at-start c = (handed (c .before .before .before .before .before .before .before .before .before .before .before .before .before .pre) (c .before .before .before .before .before .before .before .loop-test .taken) (c .before .before .before .before .before .wide .ensures .0) (c .before .before .before .wide2 .ensures .0)) .order
 
--- src/solve.rt:50:26
 part-forward-at-end : tie.Need-part-forward-at-end Inv-loop μ-loop
 part-forward-at-end c = (handed (c .before .before .before .before .before .before .before .before .before .before .before .before .before .pre) (c .before .before .before .before .before .before .before .loop-test .taken) (c .before .before .before .before .before .wide .ensures .0) (c .before .before .before .wide2 .ensures .0)) .inside
 
--- src/solve.rt:50:36
 mul-forward-at-2 : tie.Need-mul-forward-at-2 Inv-loop μ-loop
 mul-forward-at-2 c = search needs
 
--- src/solve.rt:50:36
 sub-forward-at-2 : tie.Need-sub-forward-at-2 Inv-loop μ-loop
 sub-forward-at-2 c = (handed (c .before .before .before .before .before .before .before .before .before .before .before .before .before .before .pre) (c .before .before .before .before .before .before .before .before .loop-test .taken) (c .before .before .before .before .before .before .wide .ensures .0) (c .before .before .before .before .wide2 .ensures .0)) .order
 
--- src/solve.rt:50:36
 part-forward-at-start-2 : tie.Need-part-forward-at-start-2 Inv-loop μ-loop
 part-forward-at-start-2 c = (handed (c .before .before .before .before .before .before .before .before .before .before .before .before .before .before .pre) (c .before .before .before .before .before .before .before .before .loop-test .taken) (c .before .before .before .before .before .before .wide .ensures .0) (c .before .before .before .before .wide2 .ensures .0)) .order
 
--- src/solve.rt:50:36
 part-forward-at-end-2 : tie.Need-part-forward-at-end-2 Inv-loop μ-loop
 part-forward-at-end-2 c = (handed (c .before .before .before .before .before .before .before .before .before .before .before .before .before .before .pre) (c .before .before .before .before .before .before .before .before .loop-test .taken) (c .before .before .before .before .before .before .wide .ensures .0) (c .before .before .before .before .wide2 .ensures .0)) .inside-v
 
--- src/solve.rt:50:9
 forward-at-requires : tie.Need-forward-at-requires Inv-loop μ-loop
 forward-at-requires c κs = search needs
 
--- src/solve.rt:46:9
 add-j : tie.Need-add-j Inv-loop μ-loop
 add-j c = search needs
 
--- src/solve.rt:46:5
 loop-less : tie.Need-loop-less Inv-loop μ-loop
 loop-less c = omega (arith, c .before .before .before .before .before .before .before .before .before .before .before .before .before .loop-test .taken)
 
--- src/solve.rt:46:5
 loop-again : tie.Need-loop-again Inv-loop μ-loop
 loop-again c = forwarding-turn (c .before .before .before .before .before .before .before .before .before .before .before .before .before .before .loop .inv) (c .before .before .before .before .before .before .before .before .before .before .before .before .before .loop-test .taken) (handed (c .before .before .before .before .before .before .before .before .before .before .before .before .before .before .before .before .before .before .before .pre) (c .before .before .before .before .before .before .before .before .before .before .before .before .before .loop-test .taken) (c .before .before .before .before .before .before .before .before .before .before .before .wide .ensures .0) (c .before .before .before .before .before .before .before .before .before .wide2 .ensures .0)) (c .before .before .before .before .before .before .value-at .ensures) (c .before .before .forward-at .ensures)
 
--- src/solve.rt:42:1
 same-length : tie.Need-same-length Inv-loop μ-loop
 same-length c = c .before .loop .inv .long
 
--- src/solve.rt:42:1
 returns : tie.Need-returns Inv-loop μ-loop
 returns c = forwarding-end (c .before .loop .inv) (c .loop-test .left)
 

@@ -1,42 +1,32 @@
-use lib.ListN.{length-set}
+-- `forward_at`: the step of proofs/Steps.antt. Assumes nothing.
 use mathlib.Core.Path.{_∙_}
-use Rattle.cs_solve.proofs.Steps.{forward-is, forward-out}
+use lib.ListN.{length-set}
 use borrow.Author.Needs.{needs}
+use Rattle.cs_solve.proofs.Steps.{forward-is, forward-out}
 use Rattle.cs_solve.proofs.solve.forward_at.Statement.{statement}
 use Rattle.cs_solve.proofs.solve.forward_at.Tie as tie
-use Rattle.cs_solve.proofs.solve.forward_at.Reads as reads
-use Rattle.cs_solve.proofs.solve.forward_at.Lts as lts
-use Rattle.cs_solve.proofs.solve.lower_rows.Reads as lower-rows-reads
 
--- src/solve.rt:35:17
 mul-x : tie.Need-mul-x
 mul-x c = search needs
 
--- src/solve.rt:35:17
 slice-read-x : tie.Need-slice-read-x
 slice-read-x c = search needs
 
--- src/solve.rt:36:9
 mul-b : tie.Need-mul-b
 mul-b c = search needs
 
--- src/solve.rt:36:9
 slice-write-b : tie.Need-slice-write-b
 slice-write-b c = search needs
 
--- src/solve.rt:37:9
 lower-rows-requires : tie.Need-lower-rows-requires
 lower-rows-requires c κs = search needs
 
--- src/solve.rt:31:1
 same-length : tie.Need-same-length
 same-length c = c .before .before .lower-rows .kept .1 .1 .1 .1 .0 ∙ simp length-set
 
--- src/solve.rt:31:1
 returns : tie.Need-returns
 returns c = forward-is _ _ _ _ _ (c .before .before .lower-rows .ensures)
 
--- src/solve.rt:31:1
 returns-2 : tie.Need-returns-2
 returns-2 c = forward-out _ _ _ _ _ (c .if1 .left)
 

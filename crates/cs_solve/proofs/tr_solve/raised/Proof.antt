@@ -1,14 +1,12 @@
-use mathlib.Core.Logic.{inl, inr, ⊎-elim}
-use Rattle.cs_solve.proofs.Steps.{Raising, raising-start, raising-row, raising-set, raising-above, raising-end}
+-- `raised`: the loop of proofs/Steps.antt. Assumes nothing.
+use mathlib.Core.Logic.{⊎-elim}
+use Prim.Native.Nat.{_-_}
 use native.Mathlib.Omega.{arith}
 use lib.ListN.{length}
-use Prim.Native.Nat.{_-_}
 use borrow.Author.Needs.{needs}
+use Rattle.cs_solve.proofs.Steps.{Raising, raising-start, raising-row, raising-set, raising-above, raising-end}
 use Rattle.cs_solve.proofs.tr_solve.raised.Statement.{statement}
 use Rattle.cs_solve.proofs.tr_solve.raised.Tie as tie
-use Rattle.cs_solve.proofs.tr_solve.raised.Reads as reads
-use Rattle.cs_solve.proofs.tr_solve.raised.Lts as lts
-use Rattle.lists.proofs.numbers.wide.Reads as wide-reads
 
 abbrev Inv-loop : tie.InvT-loop
 Inv-loop j rows vals b y₀ k₀ y k = Raising j rows vals b y k
@@ -16,59 +14,45 @@ Inv-loop j rows vals b y₀ k₀ y k = Raising j rows vals b y k
 abbrev μ-loop : tie.MeasureT-loop
 μ-loop j rows vals b y₀ k₀ y k = length rows - k
 
--- src/tr_solve.rt:22:17
 mul-y : tie.Need-mul-y Inv-loop μ-loop
 mul-y c = search needs
 
--- src/tr_solve.rt:22:17
 shared-slice-read-y : tie.Need-shared-slice-read-y Inv-loop μ-loop
 shared-slice-read-y c = search needs
 
--- src/tr_solve.rt:24:5
 loop-holds : tie.Need-loop-holds Inv-loop μ-loop
 loop-holds c = raising-start (c .before .before .before .before .pre)
 
--- src/tr_solve.rt:25:22
 mul-wide : tie.Need-mul-wide Inv-loop μ-loop
 mul-wide c = search needs
 
--- src/tr_solve.rt:25:22
 shared-slice-read-wide : tie.Need-shared-slice-read-wide Inv-loop μ-loop
 shared-slice-read-wide c = search needs
 
--- src/tr_solve.rt:25:13
 wide-requires : tie.Need-wide-requires Inv-loop μ-loop
 wide-requires c κs = search needs
 
--- src/tr_solve.rt:27:21
 mul-value : tie.Need-mul-value Inv-loop μ-loop
 mul-value c = search needs
 
--- src/tr_solve.rt:27:21
 shared-slice-read-value : tie.Need-shared-slice-read-value Inv-loop μ-loop
 shared-slice-read-value c = search needs
 
--- src/tr_solve.rt:27:31
 mul-y-2 : tie.Need-mul-y-2 Inv-loop μ-loop
 mul-y-2 c = search needs
 
--- src/tr_solve.rt:27:31
 shared-slice-read-y-2 : tie.Need-shared-slice-read-y-2 Inv-loop μ-loop
 shared-slice-read-y-2 c = raising-row (c .before .before .before .before .before .before .loop .inv) (c .before .before .before .before .before .loop-test .taken) (c .before .before .before .wide .ensures .0)
 
--- src/tr_solve.rt:29:9
 add-k : tie.Need-add-k Inv-loop μ-loop
 add-k c = search needs
 
--- src/tr_solve.rt:24:5
 loop-less : tie.Need-loop-less Inv-loop μ-loop
 loop-less c = omega (arith, c .before .before .before .loop-test .taken)
 
--- src/tr_solve.rt:24:5
 loop-again : tie.Need-loop-again Inv-loop μ-loop
 loop-again c = let w = c .before .before .before .before .loop .inv in ⊎-elim (λ t. rw (t .3) (raising-set w (c .before .before .before .loop-test .taken) (c .before .wide .ensures .0) (t .0 .taken))) (λ t. rw (t .1) (raising-above w (c .before .before .before .loop-test .taken) (c .before .wide .ensures .0) (t .0 .left))) (c .if1 .came)
 
--- src/tr_solve.rt:18:1
 returns : tie.Need-returns Inv-loop μ-loop
 returns c = raising-end (c .before .loop .inv) (c .loop-test .left)
 

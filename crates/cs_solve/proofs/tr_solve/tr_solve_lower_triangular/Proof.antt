@@ -1,47 +1,35 @@
+-- `tr_solve_lower_triangular`: the ways out of proofs/Ways.antt. Assumes nothing.
+use native.Mathlib.Omega.{arith}
+use borrow.Author.Needs.{needs}
 use Rattle.cs_solve.specs.TrSolve.{transposed, transposedColumn}
 use Rattle.cs_solve.specs.Judge.{lackingColumns}
 use Rattle.cs_solve.specs.Diagonal.{diagonal, lacking}
 use Rattle.cs_solve.proofs.Ways.{passed, at-check, at-10, at-end}
-use native.Mathlib.Omega.{arith}
-use borrow.Author.Needs.{needs}
 use Rattle.cs_solve.proofs.tr_solve.tr_solve_lower_triangular.Statement.{statement}
 use Rattle.cs_solve.proofs.tr_solve.tr_solve_lower_triangular.Tie as tie
-use Rattle.cs_solve.proofs.tr_solve.tr_solve_lower_triangular.Reads as reads
-use Rattle.cs_solve.proofs.tr_solve.tr_solve_lower_triangular.Lts as lts
-use Rattle.cs_solve.proofs.judge.judge.Reads as judge-reads
-use Rattle.cs_solve.proofs.judge.last_lacking.Reads as last-lacking-reads
-use Rattle.cs_solve.proofs.tr_solve.transposed.Reads as transposed-reads
 
--- src/tr_solve.rt:71:9
 judge-requires : tie.Need-judge-requires
 judge-requires c κs = search needs
 
--- src/tr_solve.rt:73:9
 returns : tie.Need-returns
 returns c = at-check _ _ _ _ (c .before .judge .ensures) (c .if1 .taken)
 
--- src/tr_solve.rt:78:9
 last-lacking-requires : tie.Need-last-lacking-requires
 last-lacking-requires c κs = passed _ _ _ _ _ _ (c .before .judge .ensures) (c .if1 .left) .square
 
--- src/tr_solve.rt:82:21
 cast-t11 : tie.Need-cast-t11
 cast-t11 c = omega (arith, c .if2 .taken, passed _ _ _ _ _ _ (c .before .before .before .judge .ensures) (c .before .before .if1 .left) .square .pattern .cols)
 
--- src/tr_solve.rt:80:9
 returns-2 : tie.Need-returns-2
 unfolding transposed transposedColumn diagonal lackingColumns lacking
 returns-2 c = at-10 _ _ _ _ (c .before .before .before .judge .ensures) (c .before .before .if1 .left) (c .before .last-lacking .ensures) (c .if2 .taken)
 
--- src/tr_solve.rt:85:5
 transposed-requires : tie.Need-transposed-requires
 transposed-requires c κs = let q = passed _ _ _ _ _ _ (c .before .before .before .before .judge .ensures) (c .before .before .before .if1 .left) in (q .square, q .whole)
 
--- src/tr_solve.rt:59:1
 same-length : tie.Need-same-length
 same-length c = search needs
 
--- src/tr_solve.rt:59:1
 returns-3 : tie.Need-returns-3
 unfolding transposed transposedColumn diagonal lackingColumns lacking
 returns-3 c = at-end _ _ _ _ (c .before .before .before .before .before .before .before .judge .ensures) (c .before .before .before .before .before .before .if1 .left) (c .before .before .before .before .before .last-lacking .ensures) (c .before .before .before .before .if2 .left) (c .before .before .transposed .ensures)

@@ -1,15 +1,11 @@
-use Rattle.cs_solve.proofs.Turns.{Transposing, transposing-start, transposing-turn, transposing-end, k-in-n, column-asked}
-use Rattle.cs_solve.proofs.Columns.{Handed, handed, j-small, j-in-p, diagonal-is}
-use native.Mathlib.Omega.{arith}
+-- `transposed`: the loop of proofs/Turns.antt. Assumes nothing.
 use Prim.Native.Nat.{_-_}
+use native.Mathlib.Omega.{arith}
 use borrow.Author.Needs.{needs}
+use Rattle.cs_solve.proofs.Turns.{Transposing, transposing-start, transposing-turn, transposing-end, k-in-n, column-asked}
+use Rattle.cs_solve.proofs.Columns.{handed}
 use Rattle.cs_solve.proofs.tr_solve.transposed.Statement.{statement}
 use Rattle.cs_solve.proofs.tr_solve.transposed.Tie as tie
-use Rattle.cs_solve.proofs.tr_solve.transposed.Reads as reads
-use Rattle.cs_solve.proofs.tr_solve.transposed.Lts as lts
-use Rattle.cs_solve.proofs.diagonal.value_at.Reads as value-at-reads
-use Rattle.cs_solve.proofs.tr_solve.transposed_at.Reads as transposed-at-reads
-use Rattle.lists.proofs.numbers.wide.Reads as wide-reads
 
 abbrev Inv-loop : tie.InvT-loop
 Inv-loop n p i v b₀ j₀ b j = Transposing n p i v b₀ b j
@@ -17,127 +13,96 @@ Inv-loop n p i v b₀ j₀ b j = Transposing n p i v b₀ b j
 abbrev μ-loop : tie.MeasureT-loop
 μ-loop n p i v b₀ j₀ b j = j
 
--- src/tr_solve.rt:49:5
 loop-holds : tie.Need-loop-holds Inv-loop μ-loop
 loop-holds c = transposing-start (c .before .before .before .before .pre .0) (c .before .before .before .before .pre .1)
 
--- src/tr_solve.rt:50:9
 sub-j : tie.Need-sub-j Inv-loop μ-loop
 sub-j c = search needs
 
--- src/tr_solve.rt:51:22
 mul-wide : tie.Need-mul-wide Inv-loop μ-loop
 mul-wide c = search needs
 
--- src/tr_solve.rt:51:22
 shared-slice-read-wide : tie.Need-shared-slice-read-wide Inv-loop μ-loop
 shared-slice-read-wide c = search needs
 
--- src/tr_solve.rt:51:13
 wide-requires : tie.Need-wide-requires Inv-loop μ-loop
 wide-requires c κs = search needs
 
--- src/tr_solve.rt:52:24
 add-wide : tie.Need-add-wide Inv-loop μ-loop
 add-wide c = search needs
 
--- src/tr_solve.rt:52:22
 mul-wide-2 : tie.Need-mul-wide-2 Inv-loop μ-loop
 mul-wide-2 c = search needs
 
--- src/tr_solve.rt:52:22
 shared-slice-read-wide-2 : tie.Need-shared-slice-read-wide-2 Inv-loop μ-loop
 shared-slice-read-wide-2 c = search needs
 
--- src/tr_solve.rt:52:13
 wide-requires-2 : tie.Need-wide-requires-2 Inv-loop μ-loop
 wide-requires-2 c κs = search needs
 
--- src/tr_solve.rt:53:29
 mul-value-at : tie.Need-mul-value-at Inv-loop μ-loop
 mul-value-at c = search needs
 
--- src/tr_solve.rt:53:29
 sub-value-at : tie.Need-sub-value-at Inv-loop μ-loop
 sub-value-at c = (handed (c .before .before .before .before .before .before .before .before .before .before .pre .0) (k-in-n (c .before .before .before .before .before .loop .inv) (c .before .before .before .before .loop-test .taken)) (c .before .before .wide .ensures .0) (c .wide2 .ensures .0)) .order
 
--- src/tr_solve.rt:53:29
 part-value-at-start : tie.Need-part-value-at-start Inv-loop μ-loop
 part-value-at-start c = (handed (c .before .before .before .before .before .before .before .before .before .before .pre .0) (k-in-n (c .before .before .before .before .before .loop .inv) (c .before .before .before .before .loop-test .taken)) (c .before .before .wide .ensures .0) (c .wide2 .ensures .0)) .order
 
--- src/tr_solve.rt:53:29
 part-value-at-end : tie.Need-part-value-at-end Inv-loop μ-loop
 part-value-at-end c = (handed (c .before .before .before .before .before .before .before .before .before .before .pre .0) (k-in-n (c .before .before .before .before .before .loop .inv) (c .before .before .before .before .loop-test .taken)) (c .before .before .wide .ensures .0) (c .wide2 .ensures .0)) .inside
 
--- src/tr_solve.rt:53:39
 mul-value-at-2 : tie.Need-mul-value-at-2 Inv-loop μ-loop
 mul-value-at-2 c = search needs
 
--- src/tr_solve.rt:53:39
 sub-value-at-2 : tie.Need-sub-value-at-2 Inv-loop μ-loop
 sub-value-at-2 c = (handed (c .before .before .before .before .before .before .before .before .before .before .before .pre .0) (k-in-n (c .before .before .before .before .before .before .loop .inv) (c .before .before .before .before .before .loop-test .taken)) (c .before .before .before .wide .ensures .0) (c .before .wide2 .ensures .0)) .order
 
--- src/tr_solve.rt:53:39
 part-value-at-start-2 : tie.Need-part-value-at-start-2 Inv-loop μ-loop
 part-value-at-start-2 c = (handed (c .before .before .before .before .before .before .before .before .before .before .before .pre .0) (k-in-n (c .before .before .before .before .before .before .loop .inv) (c .before .before .before .before .before .loop-test .taken)) (c .before .before .before .wide .ensures .0) (c .before .wide2 .ensures .0)) .order
 
--- src/tr_solve.rt:53:39
 part-value-at-end-2 : tie.Need-part-value-at-end-2 Inv-loop μ-loop
 part-value-at-end-2 c = (handed (c .before .before .before .before .before .before .before .before .before .before .before .pre .0) (k-in-n (c .before .before .before .before .before .before .loop .inv) (c .before .before .before .before .before .loop-test .taken)) (c .before .before .before .wide .ensures .0) (c .before .wide2 .ensures .0)) .inside-v
 
--- src/tr_solve.rt:53:13
 value-at-requires : tie.Need-value-at-requires Inv-loop μ-loop
 value-at-requires c κs = search needs
 
--- src/tr_solve.rt:54:29
 mul-transposed-at : tie.Need-mul-transposed-at Inv-loop μ-loop
 mul-transposed-at c = search needs
 
--- src/tr_solve.rt:54:29
 sub-transposed-at : tie.Need-sub-transposed-at Inv-loop μ-loop
 sub-transposed-at c = (handed (c .before .before .before .before .before .before .before .before .before .before .before .before .before .pre .0) (k-in-n (c .before .before .before .before .before .before .before .before .loop .inv) (c .before .before .before .before .before .before .before .loop-test .taken)) (c .before .before .before .before .before .wide .ensures .0) (c .before .before .before .wide2 .ensures .0)) .order
 
--- src/tr_solve.rt:54:29
 part-transposed-at-start : tie.Need-part-transposed-at-start Inv-loop μ-loop
 part-transposed-at-start c = (handed (c .before .before .before .before .before .before .before .before .before .before .before .before .before .pre .0) (k-in-n (c .before .before .before .before .before .before .before .before .loop .inv) (c .before .before .before .before .before .before .before .loop-test .taken)) (c .before .before .before .before .before .wide .ensures .0) (c .before .before .before .wide2 .ensures .0)) .order
 
--- src/tr_solve.rt:54:29
 part-transposed-at-end : tie.Need-part-transposed-at-end Inv-loop μ-loop
 part-transposed-at-end c = (handed (c .before .before .before .before .before .before .before .before .before .before .before .before .before .pre .0) (k-in-n (c .before .before .before .before .before .before .before .before .loop .inv) (c .before .before .before .before .before .before .before .loop-test .taken)) (c .before .before .before .before .before .wide .ensures .0) (c .before .before .before .wide2 .ensures .0)) .inside
 
--- src/tr_solve.rt:54:39
 mul-transposed-at-2 : tie.Need-mul-transposed-at-2 Inv-loop μ-loop
 mul-transposed-at-2 c = search needs
 
--- src/tr_solve.rt:54:39
 sub-transposed-at-2 : tie.Need-sub-transposed-at-2 Inv-loop μ-loop
 sub-transposed-at-2 c = (handed (c .before .before .before .before .before .before .before .before .before .before .before .before .before .before .pre .0) (k-in-n (c .before .before .before .before .before .before .before .before .before .loop .inv) (c .before .before .before .before .before .before .before .before .loop-test .taken)) (c .before .before .before .before .before .before .wide .ensures .0) (c .before .before .before .before .wide2 .ensures .0)) .order
 
--- src/tr_solve.rt:54:39
 part-transposed-at-start-2 : tie.Need-part-transposed-at-start-2 Inv-loop μ-loop
 part-transposed-at-start-2 c = (handed (c .before .before .before .before .before .before .before .before .before .before .before .before .before .before .pre .0) (k-in-n (c .before .before .before .before .before .before .before .before .before .loop .inv) (c .before .before .before .before .before .before .before .before .loop-test .taken)) (c .before .before .before .before .before .before .wide .ensures .0) (c .before .before .before .before .wide2 .ensures .0)) .order
 
--- src/tr_solve.rt:54:39
 part-transposed-at-end-2 : tie.Need-part-transposed-at-end-2 Inv-loop μ-loop
 part-transposed-at-end-2 c = (handed (c .before .before .before .before .before .before .before .before .before .before .before .before .before .before .pre .0) (k-in-n (c .before .before .before .before .before .before .before .before .before .loop .inv) (c .before .before .before .before .before .before .before .before .loop-test .taken)) (c .before .before .before .before .before .before .wide .ensures .0) (c .before .before .before .before .wide2 .ensures .0)) .inside-v
 
--- src/tr_solve.rt:54:9
 transposed-at-requires : tie.Need-transposed-at-requires Inv-loop μ-loop
 transposed-at-requires c κs = column-asked (c .before .before .before .before .before .before .before .before .before .before .before .loop .inv) (c .before .before .before .before .before .before .before .before .before .before .loop-test .taken) (handed (c .before .before .before .before .before .before .before .before .before .before .before .before .before .before .before .before .pre .0) (k-in-n (c .before .before .before .before .before .before .before .before .before .before .before .loop .inv) (c .before .before .before .before .before .before .before .before .before .before .loop-test .taken)) (c .before .before .before .before .before .before .before .before .wide .ensures .0) (c .before .before .before .before .before .before .wide2 .ensures .0))
 
--- src/tr_solve.rt:49:5
 loop-less : tie.Need-loop-less Inv-loop μ-loop
 loop-less c = omega (arith, c .before .before .before .before .before .before .before .before .before .before .before .before .before .loop-test .taken)
 
--- src/tr_solve.rt:49:5
 loop-again : tie.Need-loop-again Inv-loop μ-loop
 loop-again c = transposing-turn (c .before .before .before .before .before .before .before .before .before .before .before .before .before .before .loop .inv) (c .before .before .before .before .before .before .before .before .before .before .before .before .before .loop-test .taken) (handed (c .before .before .before .before .before .before .before .before .before .before .before .before .before .before .before .before .before .before .before .pre .0) (k-in-n (c .before .before .before .before .before .before .before .before .before .before .before .before .before .before .loop .inv) (c .before .before .before .before .before .before .before .before .before .before .before .before .before .loop-test .taken)) (c .before .before .before .before .before .before .before .before .before .before .before .wide .ensures .0) (c .before .before .before .before .before .before .before .before .before .wide2 .ensures .0)) (c .before .before .before .before .before .before .value-at .ensures) (c .before .before .transposed-at .ensures)
 
--- src/tr_solve.rt:44:1
 same-length : tie.Need-same-length Inv-loop μ-loop
 same-length c = c .before .loop .inv .long
 
--- src/tr_solve.rt:44:1
 returns : tie.Need-returns Inv-loop μ-loop
 returns c = transposing-end (c .before .loop .inv) (omega (arith, c .loop-test .left))
 

@@ -1,15 +1,13 @@
-use Rattle.cs_solve_cs.proofs.Marking.{Marking, marking-start, marking-set, marking-below, marking-out, marking-end}
-use lib.ListN.{length}
-use borrow.Author.Tests.{ltb-true, ltb-false}
-use mathlib.Core.Logic.{inl, inr, ⊎-elim}
-use native.Mathlib.Omega.{arith}
+-- `mark`: the loop of proofs/Marking.antt. Assumes nothing.
+use mathlib.Core.Logic.{⊎-elim}
 use Prim.Native.Nat.{_-_}
+use native.Mathlib.Omega.{arith}
+use lib.ListN.{length}
+use borrow.Author.Tests.{ltb-false}
 use borrow.Author.Needs.{needs}
+use Rattle.cs_solve_cs.proofs.Marking.{Marking, marking-start, marking-set, marking-below, marking-out, marking-end}
 use Rattle.cs_solve_cs.proofs.reach.mark.Statement.{statement}
 use Rattle.cs_solve_cs.proofs.reach.mark.Tie as tie
-use Rattle.cs_solve_cs.proofs.reach.mark.Reads as reads
-use Rattle.cs_solve_cs.proofs.reach.mark.Lts as lts
-use Rattle.lists.proofs.numbers.wide.Reads as wide-reads
 
 abbrev Inv-loop : tie.InvT-loop
 Inv-loop from rows w₀ k₀ w k = Marking from rows w₀ w k
@@ -17,47 +15,36 @@ Inv-loop from rows w₀ k₀ w k = Marking from rows w₀ w k
 abbrev μ-loop : tie.MeasureT-loop
 μ-loop from rows w₀ k₀ w k = length rows - k
 
--- src/reach.rt:14:5
 loop-holds : tie.Need-loop-holds Inv-loop μ-loop
 loop-holds c = marking-start _ _ _
 
--- src/reach.rt:15:22
 mul-wide : tie.Need-mul-wide Inv-loop μ-loop
 mul-wide c = search needs
 
--- src/reach.rt:15:22
 shared-slice-read-wide : tie.Need-shared-slice-read-wide Inv-loop μ-loop
 shared-slice-read-wide c = search needs
 
--- src/reach.rt:15:13
 wide-requires : tie.Need-wide-requires Inv-loop μ-loop
 wide-requires c κs = search needs
 
--- src/reach.rt:17:13
 mul-w : tie.Need-mul-w Inv-loop μ-loop
 mul-w c = search needs
 
--- src/reach.rt:17:13
 slice-write-w : tie.Need-slice-write-w Inv-loop μ-loop
 slice-write-w c = search needs
 
--- src/reach.rt:19:9
 add-k : tie.Need-add-k Inv-loop μ-loop
 add-k c = search needs
 
--- src/reach.rt:14:5
 loop-less : tie.Need-loop-less Inv-loop μ-loop
 loop-less c = omega (arith, c .before .before .before .loop-test .taken)
 
--- src/reach.rt:14:5
 loop-again : tie.Need-loop-again Inv-loop μ-loop
 loop-again c = let w = c .before .before .before .before .loop .inv in let g = c .before .before .before .loop-test .taken in let e = c .before .wide .ensures .0 in ⊎-elim (λ t. rw (t .2) (marking-set w g e (t .0 .taken))) (λ u. rw (u .1) (⊎-elim (λ s. marking-out w g e (ltb-false _ _ (s .1 .left))) (λ s. marking-below w g e (s .left)) (u .0 .came))) (c .if1 .came)
 
--- src/reach.rt:10:1
 same-length : tie.Need-same-length Inv-loop μ-loop
 same-length c = c .before .loop .inv .long
 
--- src/reach.rt:10:1
 returns : tie.Need-returns Inv-loop μ-loop
 returns c = marking-end (c .before .loop .inv) (c .loop-test .left)
 

@@ -1,19 +1,14 @@
-use lib.ListN.{length, length-replicate}
+-- `reach`: the loop of proofs/Reaching.antt. Assumes nothing.
 use mathlib.Core.Path.{sym, ap, _∙_}
-use Rattle.cs_solve_cs.proofs.Reaching.{Reaching, reaching-start, reaching-on, reaching-off, reaching-end, count-small}
-use Rattle.cs_solve.proofs.Columns.{Handed, handed, j-small, j-in-p, diagonal-is}
-use lib.ListN.{length}
-use borrow.Author.Tests.{ltb-true, ltb-false}
-use mathlib.Core.Logic.{inl, inr, ⊎-elim}
-use native.Mathlib.Omega.{arith}
+use mathlib.Core.Logic.{⊎-elim}
 use Prim.Native.Nat.{_-_}
+use native.Mathlib.Omega.{arith}
+use lib.ListN.{length, length-replicate}
 use borrow.Author.Needs.{needs}
+use Rattle.cs_solve_cs.proofs.Reaching.{Reaching, reaching-start, reaching-on, reaching-off, reaching-end, count-small}
+use Rattle.cs_solve.proofs.Columns.{handed, j-small}
 use Rattle.cs_solve_cs.proofs.reach.reach.Statement.{statement}
 use Rattle.cs_solve_cs.proofs.reach.reach.Tie as tie
-use Rattle.cs_solve_cs.proofs.reach.reach.Reads as reads
-use Rattle.cs_solve_cs.proofs.reach.reach.Lts as lts
-use Rattle.cs_solve_cs.proofs.reach.mark.Reads as mark-reads
-use Rattle.lists.proofs.numbers.wide.Reads as wide-reads
 
 abbrev Inv-loop : tie.InvT-loop
 Inv-loop n p i v bi w₀ count₀ j₀ w count j = Reaching n p i v bi w count j
@@ -21,95 +16,72 @@ Inv-loop n p i v bi w₀ count₀ j₀ w count j = Reaching n p i v bi w count j
 abbrev μ-loop : tie.MeasureT-loop
 μ-loop n p i v bi w₀ count₀ j₀ w count j = n - j
 
--- src/reach.rt:28:5
 mark-requires : tie.Need-mark-requires Inv-loop μ-loop
 mark-requires c κs = search needs
 
--- src/reach.rt:30:5
 loop-holds : tie.Need-loop-holds Inv-loop μ-loop
 loop-holds c = reaching-start (c .before .before .before .before .before .before .before .before .before .pre .0) (c .before .before .before .before .before .before .before .before .before .pre .1) (c .before .before .mark .ensures)
 
--- src/reach.rt:31:12
 mul-if1 : tie.Need-mul-if1 Inv-loop μ-loop
 mul-if1 c = search needs
 
--- src/reach.rt:31:12
 slice-read-if1 : tie.Need-slice-read-if1 Inv-loop μ-loop
 slice-read-if1 c = search needs
 
--- src/reach.rt:32:13
 add-count : tie.Need-add-count Inv-loop μ-loop
 add-count c = let h = count-small (c .before .before .before .loop .inv) (c .before .before .loop-test .taken) in record { fits = omega (arith, j-small (c .before .before .before .loop .inv .valid) (c .before .before .loop-test .taken)) }
 
--- src/reach.rt:33:26
 mul-wide : tie.Need-mul-wide Inv-loop μ-loop
 mul-wide c = search needs
 
--- src/reach.rt:33:26
 shared-slice-read-wide : tie.Need-shared-slice-read-wide Inv-loop μ-loop
 shared-slice-read-wide c = search needs
 
--- src/reach.rt:33:17
 wide-requires : tie.Need-wide-requires Inv-loop μ-loop
 wide-requires c κs = search needs
 
--- src/reach.rt:34:28
 add-wide : tie.Need-add-wide Inv-loop μ-loop
 add-wide c = search needs
 
--- src/reach.rt:34:26
 mul-wide-2 : tie.Need-mul-wide-2 Inv-loop μ-loop
 mul-wide-2 c = search needs
 
--- src/reach.rt:34:26
 shared-slice-read-wide-2 : tie.Need-shared-slice-read-wide-2 Inv-loop μ-loop
 shared-slice-read-wide-2 c = search needs
 
--- src/reach.rt:34:17
 wide-requires-2 : tie.Need-wide-requires-2 Inv-loop μ-loop
 wide-requires-2 c κs = search needs
 
--- src/reach.rt:35:18
 add-mark : tie.Need-add-mark Inv-loop μ-loop
 add-mark c = search needs
 
--- src/reach.rt:35:25
 mul-mark : tie.Need-mul-mark Inv-loop μ-loop
 mul-mark c = search needs
 
--- src/reach.rt:35:25
 sub-mark : tie.Need-sub-mark Inv-loop μ-loop
 sub-mark c = (handed (c .before .before .before .before .before .before .before .loop .inv .valid) (c .before .before .before .before .before .before .loop-test .taken) (c .before .before .wide .ensures .0) (c .wide2 .ensures .0)) .order
 
--- src/reach.rt:35:25
 part-mark-start : tie.Need-part-mark-start Inv-loop μ-loop
 part-mark-start c = (handed (c .before .before .before .before .before .before .before .loop .inv .valid) (c .before .before .before .before .before .before .loop-test .taken) (c .before .before .wide .ensures .0) (c .wide2 .ensures .0)) .order
 
--- src/reach.rt:35:25
 part-mark-end : tie.Need-part-mark-end Inv-loop μ-loop
 part-mark-end c = (handed (c .before .before .before .before .before .before .before .loop .inv .valid) (c .before .before .before .before .before .before .loop-test .taken) (c .before .before .wide .ensures .0) (c .wide2 .ensures .0)) .inside
 
--- src/reach.rt:35:13
 mark-requires-2 : tie.Need-mark-requires-2 Inv-loop μ-loop
 mark-requires-2 c κs = search needs
 
--- src/reach.rt:30:9
 add-j : tie.Need-add-j Inv-loop μ-loop
 add-j c = search needs
 
--- src/reach.rt:30:5
 loop-less : tie.Need-loop-less Inv-loop μ-loop
 loop-less c = omega (arith, c .before .before .loop-test .taken)
 
--- src/reach.rt:30:5
 loop-again : tie.Need-loop-again Inv-loop μ-loop
 loop-again c = let r = c .before .before .before .loop .inv in let h = c .before .before .loop-test .taken in ⊎-elim (λ t. rw (t .10, t .11) (reaching-on r h (t .0 .taken) (handed (r .valid) h (t .2 .ensures .0) (t .4 .ensures .0)) (t .7 .ensures))) (λ t. rw (t .1, t .2) (reaching-off r h (t .0 .left))) (c .if1 .came)
 
--- src/reach.rt:24:1
 same-length : tie.Need-same-length Inv-loop μ-loop
 same-length c = c .before .loop .inv .long ∙ sym (ap length (c .before .before .before .before .before .before .before .before .before .before .before .pre .1) ∙ length-replicate _ _)
 
--- src/reach.rt:24:1
 returns : tie.Need-returns Inv-loop μ-loop
 returns c = reaching-end (c .before .loop .inv) (c .loop-test .left)
 

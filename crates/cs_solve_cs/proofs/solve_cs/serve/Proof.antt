@@ -1,86 +1,63 @@
+-- `serve`: the ways out of proofs/Ways.antt. Assumes nothing.
+use mathlib.Core.Path.{ap, _∙_}
 use Prim.Native.Nat.{ℕ}
-use Rattle.cs_solve_cs.proofs.Ways.{at-7-i, at-7-v, room, at-10, at-end}
-use Rattle.lists.specs.Calls.{none}
+use native.Mathlib.Omega.{arith}
 use lib.ListN.{length, length-replicate}
 use lib.Ieee.{Float}
-use native.Mathlib.Omega.{arith}
-use mathlib.Core.Path.{ap, _∙_}
 use borrow.Author.Needs.{needs}
+use Rattle.cs_solve_cs.proofs.Ways.{at-7-i, at-7-v, room, at-10, at-end}
+use Rattle.lists.specs.Calls.{none}
 use Rattle.cs_solve_cs.proofs.solve_cs.serve.Statement.{statement}
 use Rattle.cs_solve_cs.proofs.solve_cs.serve.Tie as tie
-use Rattle.cs_solve_cs.proofs.solve_cs.serve.Reads as reads
-use Rattle.cs_solve_cs.proofs.solve_cs.serve.Lts as lts
-use Rattle.cs_solve_cs.proofs.reach.reach.Reads as reach-reads
-use Rattle.cs_solve_cs.proofs.steps.first_lacking.Reads as first-lacking-reads
-use Rattle.cs_solve_cs.proofs.steps.forward.Reads as forward-reads
-use Rattle.cs_solve_cs.proofs.steps.gather.Reads as gather-reads
-use Rattle.cs_solve_cs.proofs.steps.put.Reads as put-reads
 
--- src/solve_cs.rt:57:9
 reach-requires : tie.Need-reach-requires
 reach-requires c κs = (c .before .before .before .before .before .before .before .before .before .before .pre .valid, c .before .before .before .before .before .before .before .before .before .before .pre .clean)
 
--- src/solve_cs.rt:59:9
 same-length : tie.Need-same-length
 same-length c = c .before .before .before .reach .kept .1 .1 .1 .1 .1 .0
 
--- src/solve_cs.rt:59:9
 returns : tie.Need-returns
 returns c = at-7-i _ _ _ _ _ _ _ (c .before .before .before .before .before .before .before .before .before .before .before .before .before .before .pre .valid .pattern .cols) (c .before .before .before .reach .ensures .1) (c .if1 .taken)
 
--- src/solve_cs.rt:65:9
 same-length-2 : tie.Need-same-length-2
 same-length-2 c = c .before .before .before .before .reach .kept .1 .1 .1 .1 .1 .0
 
--- src/solve_cs.rt:65:9
 returns-2 : tie.Need-returns-2
 returns-2 c = at-7-v _ _ _ _ _ _ _ (c .before .before .before .before .before .before .before .before .before .before .before .before .before .before .before .pre .valid .pattern .cols) (c .before .before .before .before .reach .ensures .1) (c .before .if1 .left) (c .if2 .taken)
 
--- src/solve_cs.rt:70:9
 first-lacking-requires : tie.Need-first-lacking-requires
 first-lacking-requires c κs = (c .before .before .before .before .before .before .before .before .before .before .before .before .before .before .before .before .pre .valid, omega (arith, c .before .before .before .before .before .reach .kept .1 .1 .1 .1 .1 .0, ap length (c .before .before .before .before .before .before .before .before .before .before .before .before .before .before .before .before .pre .clean), length-replicate {A = ℕ} (c .before .before .before .before .before .before .before .before .before .before .before .before .before .before .before .before .args .n) 0))
 
--- src/solve_cs.rt:74:21
 cast-t19 : tie.Need-cast-t19
 cast-t19 c = omega (arith, c .if3 .taken, c .before .before .before .before .before .before .before .before .before .before .before .before .before .before .before .before .before .before .pre .valid .pattern .cols)
 
--- src/solve_cs.rt:72:9
 same-length-3 : tie.Need-same-length-3
 same-length-3 c = c .before .before .before .before .before .before .before .reach .kept .1 .1 .1 .1 .1 .0
 
--- src/solve_cs.rt:72:9
 returns-3 : tie.Need-returns-3
 returns-3 c = at-10 _ _ _ _ _ _ _ (c .before .before .before .before .before .before .before .before .before .before .before .before .before .before .before .before .before .before .pre .valid .pattern .cols) (c .before .before .before .before .before .before .before .reach .ensures .1) (c .before .before .before .before .if1 .left) (c .before .before .before .if2 .left) _ (c .before .before .before .before .before .before .before .reach .ensures .0) (c .before .first-lacking .ensures) (c .if3 .taken)
 
--- src/solve_cs.rt:77:5
 put-requires : tie.Need-put-requires
 put-requires c κs = search needs
 
--- src/solve_cs.rt:78:5
 forward-requires : tie.Need-forward-requires
 forward-requires c κs = (c .before .before .before .before .before .before .before .before .before .before .before .before .before .before .before .before .before .before .before .before .before .before .before .before .pre .valid, omega (arith, c .before .before .before .before .before .before .before .before .before .before .before .before .before .reach .kept .1 .1 .1 .1 .1 .0, ap length (c .before .before .before .before .before .before .before .before .before .before .before .before .before .before .before .before .before .before .before .before .before .before .before .before .pre .clean), length-replicate {A = ℕ} (c .before .before .before .before .before .before .before .before .before .before .before .before .before .before .before .before .before .before .before .before .before .before .before .before .args .n) 0))
 
--- src/solve_cs.rt:79:5
 gather-requires : tie.Need-gather-requires
 gather-requires c κs = room _ _ _ (c .before .before .before .before .before .before .before .before .before .before .before .before .before .before .before .before .before .before .before .before .before .before .before .before .before .before .before .before .before .before .before .args .v .now) _ (c .before .before .before .before .before .before .before .before .before .before .before .before .before .before .before .before .before .before .before .before .before .before .before .before .before .before .before .before .before .before .before .args .bv .now) _ (c .before .before .before .before .before .before .before .before .before .before .before .before .before .before .before .before .before .before .before .before .before .before .before .before .before .before .before .before .before .before .before .pre .valid .pattern .cols) (c .before .before .before .before .before .before .before .before .before .before .before .before .before .before .before .before .before .before .before .before .reach .ensures .1) (c .before .before .before .before .before .before .before .before .before .before .before .before .before .before .before .before .before .if1 .left) (c .before .before .before .before .before .before .before .before .before .before .before .before .before .before .before .before .if2 .left) _ (c .before .before .before .before .before .before .before .before .before .before .before .before .before .before .before .before .before .before .before .before .reach .ensures .0) (omega (arith, c .before .before .before .before .before .before .before .before .before .before .before .before .before .before .before .before .before .before .before .before .reach .kept .1 .1 .1 .1 .1 .0, ap length (c .before .before .before .before .before .before .before .before .before .before .before .before .before .before .before .before .before .before .before .before .before .before .before .before .before .before .before .before .before .before .before .pre .clean), length-replicate {A = ℕ} (c .before .before .before .before .before .before .before .before .before .before .before .before .before .before .before .before .before .before .before .before .before .before .before .before .before .before .before .before .before .before .before .args .n) 0)) (omega (arith, c .before .before .before .before .before .before .forward .kept .1 .1 .1 .1 .1 .0, c .before .before .before .before .before .before .before .before .before .before .before .put .kept .1 .1 .0, ap length (c .before .before .before .before .before .before .before .before .before .before .before .before .before .before .before .before .before .before .before .before .before .before .before .before .before .before .before .before .before .before .before .pre .zeros), length-replicate {A = Float} (c .before .before .before .before .before .before .before .before .before .before .before .before .before .before .before .before .before .before .before .before .before .before .before .before .before .before .before .before .before .before .before .args .n) none))
 
--- src/solve_cs.rt:37:1
 same-length-4 : tie.Need-same-length-4
 same-length-4 c = c .before .before .before .before .gather .kept .1 .1 .1 .0
 
--- src/solve_cs.rt:37:1
 same-length-5 : tie.Need-same-length-5
 same-length-5 c = c .before .before .before .before .gather .kept .1 .1 .1 .1 .0
 
--- src/solve_cs.rt:37:1
 same-length-6 : tie.Need-same-length-6
 same-length-6 c = c .before .before .before .before .before .before .before .before .before .before .before .before .before .before .before .before .before .before .before .before .before .before .before .before .before .reach .kept .1 .1 .1 .1 .1 .0
 
--- src/solve_cs.rt:37:1
 same-length-7 : tie.Need-same-length-7
 same-length-7 c = c .before .before .before .before .before .before .before .before .before .before .before .forward .kept .1 .1 .1 .1 .1 .0 ∙ c .before .before .before .before .before .before .before .before .before .before .before .before .before .before .before .before .put .kept .1 .1 .0
 
--- src/solve_cs.rt:37:1
 returns-4 : tie.Need-returns-4
 returns-4 c = at-end _ _ _ _ _ _ _ (c .before .before .before .before .before .before .before .before .before .before .before .before .before .before .before .before .before .before .before .before .before .before .before .before .before .before .before .before .before .before .before .before .before .before .before .before .pre .valid .pattern .cols) (c .before .before .before .before .before .before .before .before .before .before .before .before .before .before .before .before .before .before .before .before .before .before .before .before .before .reach .ensures .1) (c .before .before .before .before .before .before .before .before .before .before .before .before .before .before .before .before .before .before .before .before .before .before .if1 .left) (c .before .before .before .before .before .before .before .before .before .before .before .before .before .before .before .before .before .before .before .before .before .if2 .left) _ (c .before .before .before .before .before .before .before .before .before .before .before .before .before .before .before .before .before .before .before .before .before .before .before .before .before .reach .ensures .0) (c .before .before .before .before .before .before .before .before .before .before .before .before .before .before .before .before .before .before .before .first-lacking .ensures) (c .before .before .before .before .before .before .before .before .before .before .before .before .before .before .before .before .before .before .if3 .left) (c .before .before .before .before .before .before .before .before .before .before .before .before .before .before .before .before .before .before .before .before .before .before .before .before .before .before .before .before .before .before .before .before .before .before .before .before .pre .zeros) (c .before .before .before .before .before .before .before .before .before .before .before .before .before .before .before .before .put .ensures) (c .before .before .before .before .before .before .before .before .before .before .before .forward .ensures) (c .before .before .before .before .gather .ensures .0) (c .before .before .before .before .gather .ensures .1)
 

@@ -1,14 +1,11 @@
-use Rattle.cs_solve_cs.proofs.Stepping.{Gathering, gathering-start, gathering-on, gathering-off, gathering-end, at-in-i, at-in-v, at-small, i-long, v-long}
-use lib.ListN.{length}
-use borrow.Author.Tests.{ltb-true, ltb-false}
-use mathlib.Core.Logic.{inl, inr, ⊎-elim}
-use native.Mathlib.Omega.{arith}
+-- `gather`: the loop of proofs/Stepping.antt. Assumes nothing.
+use mathlib.Core.Logic.{⊎-elim}
 use Prim.Native.Nat.{_-_}
+use native.Mathlib.Omega.{arith}
 use borrow.Author.Needs.{needs}
+use Rattle.cs_solve_cs.proofs.Stepping.{Gathering, gathering-start, gathering-on, gathering-off, gathering-end, at-in-i, at-in-v, at-small, i-long, v-long}
 use Rattle.cs_solve_cs.proofs.steps.gather.Statement.{statement}
 use Rattle.cs_solve_cs.proofs.steps.gather.Tie as tie
-use Rattle.cs_solve_cs.proofs.steps.gather.Reads as reads
-use Rattle.cs_solve_cs.proofs.steps.gather.Lts as lts
 
 abbrev Inv-loop : tie.InvT-loop
 Inv-loop n w x xi₀ xv₀ at₀ j₀ xi xv at j = Gathering n w x xi₀ xv₀ xi xv at j
@@ -16,71 +13,54 @@ Inv-loop n w x xi₀ xv₀ at₀ j₀ xi xv at j = Gathering n w x xi₀ xv₀ x
 abbrev μ-loop : tie.MeasureT-loop
 μ-loop n w x xi₀ xv₀ at₀ j₀ xi xv at j = n - j
 
--- src/steps.rt:74:5
 loop-holds : tie.Need-loop-holds Inv-loop μ-loop
 loop-holds c = gathering-start (c .pre)
 
--- src/steps.rt:75:12
 mul-if1 : tie.Need-mul-if1 Inv-loop μ-loop
 mul-if1 c = omega (arith, c .before .before .pre .small, c .loop-test .taken)
 
--- src/steps.rt:75:12
 shared-slice-read-if1 : tie.Need-shared-slice-read-if1 Inv-loop μ-loop
 shared-slice-read-if1 c = omega (arith, c .before .before .before .pre .w-long, c .before .loop-test .taken)
 
--- src/steps.rt:76:22
 cast-xi : tie.Need-cast-xi Inv-loop μ-loop
 cast-xi c = omega (arith, c .before .before .before .before .pre .small, c .before .before .loop-test .taken)
 
--- src/steps.rt:76:13
 mul-xi : tie.Need-mul-xi Inv-loop μ-loop
 mul-xi c = omega (arith, at-small (c .before .before .before .loop .inv) (c .before .before .loop-test .taken) (c .if1 .taken))
 
--- src/steps.rt:76:13
 slice-write-xi : tie.Need-slice-write-xi Inv-loop μ-loop
 slice-write-xi c = at-in-i (c .before .before .before .loop .inv) (c .before .before .loop-test .taken) (c .if1 .taken)
 
--- src/steps.rt:77:22
 mul-xv : tie.Need-mul-xv Inv-loop μ-loop
 mul-xv c = omega (arith, c .before .before .before .before .pre .small, c .before .before .loop-test .taken)
 
--- src/steps.rt:77:22
 shared-slice-read-xv : tie.Need-shared-slice-read-xv Inv-loop μ-loop
 shared-slice-read-xv c = omega (arith, c .before .before .before .before .before .pre .x-long, c .before .before .before .loop-test .taken)
 
--- src/steps.rt:77:13
 mul-xv-2 : tie.Need-mul-xv-2 Inv-loop μ-loop
 mul-xv-2 c = omega (arith, at-small (c .before .before .before .before .loop .inv) (c .before .before .before .loop-test .taken) (c .before .if1 .taken))
 
--- src/steps.rt:77:13
 slice-write-xv : tie.Need-slice-write-xv Inv-loop μ-loop
 slice-write-xv c = at-in-v (c .before .before .before .before .loop .inv) (c .before .before .before .loop-test .taken) (c .before .if1 .taken)
 
--- src/steps.rt:78:13
 add-at : tie.Need-add-at Inv-loop μ-loop
 add-at c = let h = at-small (c .before .before .before .before .loop .inv) (c .before .before .before .loop-test .taken) (c .before .if1 .taken) in record { fits = omega arith }
 
--- src/steps.rt:74:9
 add-row : tie.Need-add-row Inv-loop μ-loop
 add-row c = search needs
 
--- src/steps.rt:74:5
 loop-less : tie.Need-loop-less Inv-loop μ-loop
 loop-less c = omega (arith, c .before .before .loop-test .taken)
 
--- src/steps.rt:74:5
 loop-again : tie.Need-loop-again Inv-loop μ-loop
 loop-again c = let g = c .before .before .before .loop .inv in let h = c .before .before .loop-test .taken in ⊎-elim (λ t. rw (t .2, t .3, t .4) (gathering-on g h (t .0 .taken))) (λ t. rw (t .1, t .2, t .3) (gathering-off g h (t .0 .left))) (c .if1 .came)
 
--- src/steps.rt:68:1
 same-length : tie.Need-same-length Inv-loop μ-loop
 same-length c = i-long (c .before .loop .inv)
 
--- src/steps.rt:68:1
 same-length-2 : tie.Need-same-length-2 Inv-loop μ-loop
 same-length-2 c = v-long (c .before .loop .inv)
 
--- src/steps.rt:68:1
 returns : tie.Need-returns Inv-loop μ-loop
 returns c = gathering-end (c .before .loop .inv) (c .loop-test .left)
 
