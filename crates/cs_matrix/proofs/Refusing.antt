@@ -63,6 +63,14 @@ pub from-pattern : (a : Pattern) → From 1 (judgedPattern a)
 unfolding judgedPattern
 from-pattern a = (refl, (refl, (refl, (refl, (refl, omega arith)))))
 
+pub from-judged : (a : Matrix) → From 1 (judged a)
+unfolding judged judgedPattern both
+from-judged a = (refl, (refl, (refl, (refl, (refl, omega arith)))))
+
+pub from-vector : (b : Vector) → From 1 (judgedVector b)
+unfolding judgedVector
+from-vector b = (refl, (refl, (refl, (refl, (refl, omega arith)))))
+
 pub from-disagree : (b : Bool) → From 1 (disagree b)
 from-disagree b = (refl, (refl, omega arith))
 

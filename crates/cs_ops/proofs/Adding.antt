@@ -10,22 +10,13 @@ use lib.ListN.{length, getD, set, length-set, length-map}
 use borrow.Author.Tests.{eq-eqb, ne-eqb}
 use Rattle.lists.specs.Calls.{lowest, both, disagree, lower, none, outputs}
 use Rattle.lists.specs.Folds.{over}
-use Rattle.lists.proofs.Calls.{From, Early, below-7, lowest-both, lower-alone, lower-none}
+use Rattle.lists.proofs.Calls.{Early, left-alone, left-written, below-7, lowest-both, lower-alone, lower-none}
 use Rattle.lists.proofs.Folds.{Over, over-start, over-turn, over-end}
 use Rattle.cs_matrix.specs.Matrix.{Matrix, Vector, judged, judgedVector}
-use Rattle.cs_matrix.proofs.Refusing.{from-disagree}
+use Rattle.cs_matrix.proofs.Refusing.{from-vector, from-disagree}
 use Rattle.cs_matrix.proofs.Validity.{valid-vector, early-judged}
 use Rattle.cs_ops.specs.Axpy.{addAt, assigned, added, axpy, axpyNumber, Fitting}
 use Rattle.cs_ops.specs.Scale.{times, scaled}
-
--- ---- what a number leaves where nothing but the outputs is lent
-pub left-alone : {Out : Type 0} (r : ℕ) (w old : Out) → (r ≡ 0 → ⊥) → (r ≡ 11 → ⊥) → old ≡ outputs r w old
-unfolding outputs
-left-alone r w old g h = rw (ne-eqb r 0 g, ne-eqb r 11 h)
-
-pub left-written : {Out : Type 0} (w old : Out) {new : Out} → new ≡ w → new ≡ outputs 0 w old
-unfolding outputs
-left-written w old e = e
 
 -- ---- the two cases of axpy
 axpy-zero : (alpha beta : Float) (x : Vector) (y : List Float) → eq beta none ≡ true → assigned alpha x y ≡ axpy alpha x beta y
@@ -77,10 +68,6 @@ unfolding added
 added-done alpha beta x y₀ v e h = storing-done (addAt alpha) x v h ∙ ap (over (addAt alpha) (x .i) (x .v)) e
 
 -- ---- the ways out of `axpy_cs`
-from-vector : (x : Vector) → From 1 (judgedVector x)
-unfolding judgedVector
-from-vector x = (refl, (refl, (refl, (refl, (refl, omega arith)))))
-
 module _ (x : Vector) (y : List Float) {r : ℕ} (e : r ≡ lowest (judgedVector x)) where
   number-is : (b : Bool) → not (eqb (length y) (x .n)) ≡ b → lower r (lowest (disagree b)) ≡ axpyNumber x y
   unfolding axpyNumber

@@ -11,17 +11,13 @@ use borrow.Author.Tests.{eq-eqb, ne-eqb, eqb-true}
 use Rattle.lists.specs.Calls.{lowest, both, disagree, lower, outputs}
 use Rattle.lists.specs.Choices.{some, Found}
 use Rattle.lists.proofs.Bools.{or-false, not-holds, passed-over}
-use Rattle.lists.proofs.Calls.{Early, From, below-7, first, then, lowest-both, lower-alone, lower-none}
+use Rattle.lists.proofs.Calls.{Early, below-7, first, then, lowest-both, lower-alone, lower-none}
 use Rattle.cs_matrix.specs.Matrix.{Matrix, matrix, judgedPattern, judged, Valid}
-use Rattle.cs_matrix.proofs.Refusing.{from-disagree}
+use Rattle.cs_matrix.proofs.Refusing.{from-judged, from-disagree}
 use Rattle.cs_matrix.proofs.Validity.{valid}
 use Rattle.cs_solve.specs.Judge.{judgedSolve, lackingColumns, number, answer}
 use Rattle.cs_solve.specs.declared.Solved.{Solved}
 use Rattle.cs_solve.proofs.Columns.{squared}
-
-from-judged : (a : Matrix) → From 1 (judged a)
-unfolding judged judgedPattern both
-from-judged a = (refl, (refl, (refl, (refl, (refl, omega arith)))))
 
 pub judged-is : (a : Matrix) (b : Bool) → lower (lowest (judged a)) (lowest (disagree b)) ≡ lowest (both (judged a) (disagree b))
 judged-is a b = lowest-both 1 (judged a) (disagree b) (omega arith) (from-judged a) (from-disagree b)

@@ -18,7 +18,7 @@ use Rattle.lists.proofs.Calls.{Early, From, below-7, first, then, lowest-both, 
 use Rattle.lists.proofs.Clearing.{length-cleared, cleared-front, cleared-same, cleared-again}
 use Rattle.lists.proofs.Parts.{length-part, getD-part, length-placed}
 use Rattle.cs_matrix.specs.Matrix.{Matrix, matrix, pattern, Vector, vector, judgedPattern, judged, judgedVector, needed, Valid, ValidVector}
-use Rattle.cs_matrix.proofs.Refusing.{from-disagree}
+use Rattle.cs_matrix.proofs.Refusing.{from-judged, from-vector, from-disagree}
 use Rattle.cs_matrix.proofs.Validity.{valid, valid-vector}
 use Rattle.cs_solve.specs.Diagonal.{lacking}
 use Rattle.cs_solve.specs.Judge.{answer}
@@ -35,20 +35,12 @@ use Rattle.cs_solve_cs.proofs.Reaching.{below-within}
 use Rattle.cs_solve_cs.proofs.Stepping.{valuesOf}
 
 -- ---- 1 to 5
-from-operand : (a : Matrix) → From 1 (judged a)
-unfolding judged judgedPattern both
-from-operand a = (refl, (refl, (refl, (refl, (refl, omega arith)))))
-
-from-side : (b : Vector) → From 1 (judgedVector b)
-unfolding judgedVector
-from-side b = (refl, (refl, (refl, (refl, (refl, omega arith)))))
-
 from-both : (a : Matrix) (b : Vector) → From 1 (both (judged a) (judgedVector b))
 unfolding judged judgedPattern judgedVector both
 from-both a b = (refl, (refl, (refl, (refl, (refl, omega arith)))))
 
 two-is : (a : Matrix) (b : Vector) → lower (lowest (judged a)) (lowest (judgedVector b)) ≡ lowest (both (judged a) (judgedVector b))
-two-is a b = lowest-both 1 (judged a) (judgedVector b) (omega arith) (from-operand a) (from-side b)
+two-is a b = lowest-both 1 (judged a) (judgedVector b) (omega arith) (from-judged a) (from-vector b)
 
 three-is : (a : Matrix) (b : Vector) (t : Bool) → lower (lowest (both (judged a) (judgedVector b))) (lowest (disagree t)) ≡ lowest (both (both (judged a) (judgedVector b)) (disagree t))
 three-is a b t = lowest-both 1 (both (judged a) (judgedVector b)) (disagree t) (omega arith) (from-both a b) (from-disagree t)

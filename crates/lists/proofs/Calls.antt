@@ -165,3 +165,12 @@ narrow-x n s f g h = rw (le-ltb (length (s .w1)) n f, le-ltb (length (s .w2)) n 
 pub wiped-each : (n : ℕ) (s : Scratch) {w1 w2 w3 : List ℕ} {x : List Float} → w1 ≡ cleared 0 n (s .w1) → w2 ≡ cleared 0 n (s .w2) → w3 ≡ cleared 0 n (s .w3) → x ≡ cleared none n (s .x) → scratch w1 w2 w3 x ≡ wiped n s
 unfolding wiped
 wiped-each n s a b c d = λ k. record { w1 = a k; w2 = b k; w3 = c k; x = d k }
+
+-- ---- what a number leaves where nothing but the outputs is lent
+pub left-alone : {Out : Type 0} (r : ℕ) (w old : Out) → (r ≡ 0 → ⊥) → (r ≡ 11 → ⊥) → old ≡ outputs r w old
+unfolding outputs
+left-alone r w old g h = rw (ne-eqb r 0 g, ne-eqb r 11 h)
+
+pub left-written : {Out : Type 0} (w old : Out) {new : Out} → new ≡ w → new ≡ outputs 0 w old
+unfolding outputs
+left-written w old e = e

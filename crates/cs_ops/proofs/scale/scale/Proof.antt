@@ -1,7 +1,8 @@
 -- `scale`: the check, then the loop. Assumes nothing.
 use mathlib.Core.Path.{sym, _∙_}
 use borrow.Author.Needs.{needs}
-use Rattle.cs_ops.proofs.Adding.{scale-refused, left-written}
+use Rattle.lists.proofs.Calls.{left-written}
+use Rattle.cs_ops.proofs.Adding.{scale-refused}
 use Rattle.cs_ops.proofs.scale.scale.Statement.{statement}
 use Rattle.cs_ops.proofs.scale.scale.Tie as tie
 
