@@ -1,12 +1,12 @@
 -- A valid matrix, and the numbers that refuse one: document 01, "A valid matrix" and "Refusal numbers". Assumes nothing.
-use mathlib.Core.Bool.{Bool, true, false, not, _&&_, _||_}
+use mathlib.Core.Bool.{Bool, true, false, not, cond, _&&_, _||_}
 use mathlib.Core.List.{List, [], _∷_}
 use mathlib.Core.Path.{_≡_}
 use Prim.Native.Nat.{ℕ, _+_, _-_, _≤_, _<_, max}
 use lib.Dec.{leb, ltb, eqb}
 use lib.Ieee.{Float}
 use lib.ListN.{length, getD}
-use Rattle.lists.specs.Calls.{both, disagree, onto}
+use Rattle.lists.specs.Calls.{both, disagree, onto, none}
 use Rattle.lists.specs.Folds.{every}
 use Rattle.lists.specs.Order.{rises, allBelow}
 use Rattle.lists.specs.Parts.{part}
@@ -55,6 +55,12 @@ module _ {A : Type 0} where
   -- column j of a list with one item for each entry: the part between its two pointers
   unfoldable pub column : List ℕ → ℕ → List A → List A
   column p j l = part (getD p j 0) (getD p (j + 1) 0) l
+
+-- the value at row r of a column's rows and values; +0.0 where the row is absent
+unfoldable pub valueAt : ℕ → List ℕ → List Float → Float
+valueAt r [] vs = none
+valueAt r (i ∷ is) [] = none
+valueAt r (i ∷ is) (v ∷ vs) = cond (eqb i r) v (valueAt r is vs)
 
 -- 5, where it does not hold: within each column the rows rise strictly
 unfoldable pub columnsRise : Pattern → Bool

@@ -7,9 +7,9 @@ use lib.Ieee.{Float}
 use lib.ListN.{length, getD}
 use Rattle.lists.specs.Parts.{part}
 use Rattle.lists.proofs.Parts.{length-part, getD-part}
-use Rattle.cs_matrix.specs.Matrix.{matrix, Valid, column}
+use Rattle.cs_matrix.specs.Matrix.{matrix, Valid, column, valueAt}
 use Rattle.cs_matrix.proofs.Pointers.{between, column-is}
-use Rattle.cs_solve.specs.Diagonal.{valueAt, diagonal}
+use Rattle.cs_solve.specs.Diagonal.{diagonal}
 
 -- a valid square matrix, by the dimension that it has
 pub squared : {m n : ℕ} {p i : List ℕ} {v : List Float} → Valid (matrix m n p i v) → m ≡ n → Valid (matrix n n p i v)

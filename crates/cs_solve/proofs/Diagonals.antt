@@ -11,8 +11,8 @@ use lib.ListN.{length, getD, drop}
 use borrow.Author.Tests.{eq-eqb, ne-eqb}
 use Rattle.lists.specs.Calls.{none}
 use Rattle.lists.proofs.Pairs.{pair-at, pair-none}
-use Rattle.cs_matrix.specs.Matrix.{Matrix}
-use Rattle.cs_solve.specs.Diagonal.{valueAt, diagonal, lacking}
+use Rattle.cs_matrix.specs.Matrix.{Matrix, valueAt}
+use Rattle.cs_solve.specs.Diagonal.{diagonal, lacking}
 
 module _ (j : ℕ) (rows : List ℕ) (vals : List Float) where
   -- no row before k is j

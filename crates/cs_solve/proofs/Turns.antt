@@ -8,8 +8,7 @@ use lib.ListN.{length}
 use Rattle.lists.specs.Folds.{turns}
 use Rattle.lists.specs.Parts.{part}
 use Rattle.lists.proofs.Folds.{turns-none, turns-more, turns-end, Falls, falls-start, falls-turn, falls-end}
-use Rattle.cs_matrix.specs.Matrix.{matrix, Valid}
-use Rattle.cs_solve.specs.Diagonal.{valueAt}
+use Rattle.cs_matrix.specs.Matrix.{matrix, Valid, valueAt}
 use Rattle.cs_solve.specs.Solve.{forwardAt, forwardColumn, forward}
 use Rattle.cs_solve.specs.TrSolve.{transposedAt, transposedColumn, transposed, Column}
 use Rattle.cs_solve.proofs.Columns.{Handed, diagonal-is, part-alike, part-below}

@@ -6,8 +6,8 @@ use Prim.Native.Nat.{ℕ}
 use lib.IntN.{ℤ, pos, negsuc}
 use lib.Ieee.{Float, fin, sub, mul, div}
 use Rattle.lists.specs.Folds.{over, turns, falls}
-use Rattle.cs_matrix.specs.Matrix.{Matrix, matrix, column}
-use Rattle.cs_solve.specs.Diagonal.{valueAt, diagonal}
+use Rattle.cs_matrix.specs.Matrix.{Matrix, matrix, column, valueAt}
+use Rattle.cs_solve.specs.Diagonal.{diagonal}
 use Rattle.cs_solve.specs.Solve.{lowerAt, forwardAt, forwardColumn, forward}
 use Rattle.cs_solve.specs.TrSolve.{raiseAt, transposedAt, transposedColumn, transposed}
 

@@ -1,6 +1,6 @@
 // The search for the diagonal.
 ghost use mathlib.Core.Path.{_≡_};
-ghost use Rattle.cs_solve.specs.Diagonal.{valueAt};
+ghost use Rattle.cs_matrix.specs.Matrix.{valueAt};
 use lists::numbers::wide;
 
 // The value at row j of a column, or +0.0.

@@ -15,8 +15,8 @@ use Rattle.lists.specs.Parts.{part}
 use Rattle.lists.proofs.Choices.{chosen-more, chosen-same, Upward, upward-start, upward-turn, upward-found, upward-end}
 use Rattle.lists.proofs.Pairs.{Paired, paired-start, paired-turn}
 use Rattle.lists.proofs.Parts.{onto-more, onto-none, length-onto}
-use Rattle.cs_matrix.specs.Matrix.{Matrix, matrix}
-use Rattle.cs_solve.specs.Diagonal.{valueAt, lacking}
+use Rattle.cs_matrix.specs.Matrix.{Matrix, matrix, valueAt}
+use Rattle.cs_solve.specs.Diagonal.{lacking}
 use Rattle.cs_solve.specs.Solve.{forwardAt, forwardColumn}
 use Rattle.cs_solve.proofs.Columns.{Handed, diagonal-is}
 use Rattle.cs_solve.proofs.Diagonals.{lacking-is}
