@@ -12,6 +12,7 @@ use lib.Seq.{take-append-add}
 use borrow.Author.Tests.{lt-ltb, le-ltb, ltb-false}
 use Rattle.lists.specs.Calls.{lowest, onto, none, cleared, Scratch, scratch, wiped, narrow, Lent, lent, leaves}
 use Rattle.lists.specs.Parts.{part, placed}
+use Rattle.lists.specs.Keeping.{Kept}
 use Rattle.lists.proofs.Bools.{or-false, le-or-lt}
 use Rattle.lists.proofs.Calls.{first, then, early, late, done, wiped-each}
 use Rattle.lists.proofs.Clearing.{length-cleared, cleared-front, cleared-again}
@@ -19,10 +20,10 @@ use Rattle.lists.proofs.Laying.{part-onto, part-long}
 use Rattle.lists.proofs.Parts.{left-at, length-onto, getD-onto-front}
 use Rattle.cs_matrix.specs.Matrix.{Pattern, pattern, needed, ValidPattern}
 use Rattle.cs_tree.specs.Pattern.{Analysis, analysis, analysed, upper, lower, transposed, starts, entries}
-use Rattle.cs_tree.specs.Steps.{Given, Zeros, lengths, Kept, Whole}
+use Rattle.cs_tree.specs.Steps.{Given, Zeros, lengths, Whole}
 use Rattle.cs_tree.specs.Tree.{tree}
 use Rattle.cs_tree.proofs.Count.{length-starts, entries-lower}
-use Rattle.cs_tree.proofs.Keeping.{kept-then, kept-wider, kept-cleared, kept-onto, kept-placed, kept-clears}
+use Rattle.lists.proofs.Keeping.{kept-then, kept-wider, kept-cleared, kept-onto, kept-placed, kept-clears}
 use Rattle.cs_tree.proofs.Laid.{length-laid, length-lengths}
 use Rattle.cs_tree.proofs.Laws.{fill-upper}
 use Rattle.cs_tree.proofs.Lowering.{pointed-onto}
@@ -98,7 +99,7 @@ module _ {n t : ℕ} {p i : List ℕ} (v : ValidPattern (pattern n n p i)) {w1 w
         laid = λ q l. rw f (getD-onto-front (out .ui) (flatten (upper C)) 0 q (omega (arith, length-laid (upper C))));
       }
 
-  pub fill-lower-asks : {up ui : List ℕ} (w : List ℕ) → up ≡ onto (out .up) (starts 0 (upper C)) → ui ≡ onto (out .ui) (flatten (upper C)) → Kept (n + 1) w3 w
+  pub fill-lower-asks : {up ui : List ℕ} (w : List ℕ) → up ≡ onto (out .up) (starts 0 (upper C)) → ui ≡ onto (out .ui) (flatten (upper C)) → Kept 0 (n + 1) w3 w
       → Whole n t up ui × (n + 1 ≤ length w) × (n + 1 ≤ length (out .lp)) × (t ≤ length (out .li))
   fill-lower-asks w e f k = (whole e f, rw (k .long) (r .w3-long), r .lp-room, r .li-room)
 
@@ -106,10 +107,10 @@ module _ {n t : ℕ} {p i : List ℕ} (v : ValidPattern (pattern n n p i)) {w1 w
   copy-asks = rw (part-long n w1 (r .w1-long)) (r .tree-room)
 
   pub filled-out : {tr up ui lp li w2a w3a w3b : List ℕ} (ys : List ℕ) → tr ≡ onto (out .tree) (part 0 n w1)
-      → (e : up ≡ onto (out .up) (starts 0 (upper C))) → (f : ui ≡ onto (out .ui) (flatten (upper C))) → Kept (n + 1) w3 w3a
-      → ((w : Whole n t up ui) → (lp ≡ onto (out .lp) (starts 0 (transposed (w .us)))) × (li ≡ onto (out .li) (flatten (transposed (w .us)))) × Kept (n + 1) w3a w3b)
+      → (e : up ≡ onto (out .up) (starts 0 (upper C))) → (f : ui ≡ onto (out .ui) (flatten (upper C))) → Kept 0 (n + 1) w3 w3a
+      → ((w : Whole n t up ui) → (lp ≡ onto (out .lp) (starts 0 (transposed (w .us)))) × (li ≡ onto (out .li) (flatten (transposed (w .us)))) × Kept 0 (n + 1) w3a w3b)
       → w2a ≡ cleared 0 n w2 → length ys ≡ length (part 0 n w2a)
-      → (analysis tr up ui lp li ≡ written (analysed C) out) × Kept (n + 1) w2 (placed 0 n w2a ys) × Kept (n + 1) w3 w3b
+      → (analysis tr up ui lp li ≡ written (analysed C) out) × Kept 0 (n + 1) w2 (placed 0 n w2a ys) × Kept 0 (n + 1) w3 w3b
   unfolding written analysed lower whole
   filled-out {w2a = w2a} ys a e f k g h m =
       let z = g (whole e f) in
@@ -169,7 +170,7 @@ module _ {nrows n : ℕ} {p i w1 w2 w3 : List ℕ} {x : List Float} {old : Scrat
   begin-asked = (square-valid, omega (arith, long1), omega (arith, long2), omega (arith, long3))
 
   -- once the scratch is cleared again
-  pub cleared-up : {w1′ w2′ w3′ : List ℕ} {s : Scratch} → Kept (n + 1) w1 w1′ → Kept (n + 1) w2 w2′ → Kept (n + 1) w3 w3′ → s ≡ wiped (n + 1) (scratch w1′ w2′ w3′ x) → s ≡ wiped (n + 1) old
+  pub cleared-up : {w1′ w2′ w3′ : List ℕ} {s : Scratch} → Kept 0 (n + 1) w1 w1′ → Kept 0 (n + 1) w2 w2′ → Kept 0 (n + 1) w3 w3′ → s ≡ wiped (n + 1) (scratch w1′ w2′ w3′ x) → s ≡ wiped (n + 1) old
   unfolding wiped
   cleared-up a b c e =
       e
@@ -180,13 +181,13 @@ module _ {nrows n : ℕ} {p i w1 w2 w3 : List ℕ} {x : List Float} {old : Scrat
       (ap (cleared none (n + 1)) x-is ∙ cleared-again none (n + 1) (old .x))
 
   module _ {t : ℕ} {w1′ w2′ w3′ : List ℕ} (B : Begun D n t w1 w1′ w2 w2′ w3 w3′) where
-    pub kept1 : Kept (n + 1) w1 w1′
-    kept1 = rw (B .tree-is) (kept-onto (n + 1) w1 (tree D) (omega (arith, tree-size square-valid)) long1)
+    pub kept1 : Kept 0 (n + 1) w1 w1′
+    kept1 = rw (B .tree-is) (kept-onto (n + 1) w1 (tree D) (omega (arith, tree-size square-valid)) (omega (arith, tree-size square-valid, long1)))
 
-    pub kept2′ : Kept (n + 1) w2 w2′
+    pub kept2′ : Kept 0 (n + 1) w2 w2′
     kept2′ = kept-wider (n + 1) (omega arith) (B .kept2)
 
-    pub kept3′ : Kept (n + 1) w3 w3′
+    pub kept3′ : Kept 0 (n + 1) w3 w3′
     kept3′ = kept-wider (n + 1) (omega arith) (B .kept3)
 
     -- the count, where it is not too large
@@ -280,7 +281,7 @@ module _ {nrows n : ℕ} {p i w1 w2 w3 : List ℕ} {x : List Float} {old : Scrat
       same-columns = refl
 
       pub at-end : {b : Bool} {new : Analysis} {w2f w3f : List ℕ} {s : Scratch} → b ≡ room → b ≡ false
-          → (new ≡ written (analysed D) out) × Kept (n + 1) w2′ w2f × Kept (n + 1) w3′ w3f → s ≡ wiped (n + 1) (scratch w1′ w2f w3f x)
+          → (new ≡ written (analysed D) out) × Kept 0 (n + 1) w2′ w2f × Kept 0 (n + 1) w3′ w3f → s ≡ wiped (n + 1) (scratch w1′ w2f w3f x)
           → (0 ≡ number a (lent out old)) × (lent new s ≡ leaves 0 (needed a) (written (analysed (columns a)) out) (lent out old)) × (_≡_ {A = ℕ} 0 0 → Analysed a new)
       at-end e h g f = (
         sym (answer e ∙ ap (λ (c : Bool). cond c 7 0) h),

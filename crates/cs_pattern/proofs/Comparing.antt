@@ -10,13 +10,14 @@ use lib.Seq.{drop-drop, take-all, drop-cons}
 use Rattle.lists.specs.Calls.{onto}
 use Rattle.lists.specs.Keys.{byKey}
 use Rattle.lists.specs.Parts.{part, placed}
+use Rattle.lists.specs.Keeping.{Kept}
 use Rattle.lists.proofs.Laying.{placed-front, part-onto, part-long}
 use Rattle.lists.proofs.Parts.{left-at, left-none}
 use Rattle.lists.proofs.Scattering.{at-in-out}
 use Rattle.cs_tree.specs.Pattern.{paths, upper, entries}
-use Rattle.cs_tree.specs.Steps.{Walks, Marks, Given, Zeros, Pointed, Spread, Put, Spreads, numbers, Kept}
+use Rattle.cs_tree.specs.Steps.{Walks, Marks, Given, Zeros, Pointed, Spread, Put, Spreads, numbers}
 use Rattle.cs_tree.proofs.Filling.{given-walks, given-column, column-short, upper-long, pointed-start, pointed-size, pointed-end, pointed-order, pointed-part}
-use Rattle.cs_tree.proofs.Keeping.{kept-all, kept-then, kept-wider, kept-placed}
+use Rattle.lists.proofs.Keeping.{kept-all, kept-then, kept-wider, kept-placed}
 use Rattle.cs_tree.proofs.Laid.{entries-more}
 use Rattle.cs_tree.proofs.Spreading.{Going, going-holds, going-kept, going-place-in, Columns, columns-turn, columns-done, spreads-column, column-among}
 use Rattle.cs_tree.proofs.Walking.{marks-fresh, marks-next}
@@ -27,7 +28,7 @@ use Rattle.cs_pattern.proofs.Matching.{starts-append, starts-take, star
 -- ---- `same_column`
 module _ (k : ℕ) (par rows stack held : List ℕ) (e : length held ≡ length (paths par k rows [])) (l : length held ≤ length stack) where
   pub column-told : {ys mark1 : List ℕ} {r : Bool} → (ys ≡ paths par k rows []) × Marks k mark1 ys → r ≡ startsWith (part 0 (length held) (placed 0 (length held) stack ys)) held
-      → (r ≡ startsWith (paths par k rows []) held) × Marks k mark1 (paths par k rows []) × Kept (length held) stack (placed 0 (length held) stack ys)
+      → (r ≡ startsWith (paths par k rows []) held) × Marks k mark1 (paths par k rows []) × Kept 0 (length held) stack (placed 0 (length held) stack ys)
   column-told {ys = ys} w r =
       let z : length ys ≡ length held = ap length (w .0) ∙ sym e in
       let q : part 0 (length held) (placed 0 (length held) stack ys) ≡ paths par k rows [] = ap (part 0 (length held)) (placed-front stack ys (length held) z) ∙ part-onto (length held) stack ys z ∙ w .0 in
@@ -38,7 +39,7 @@ pub record Comparing (cols : List (List ℕ)) (n : ℕ) (ui stack₀ mark stack 
   pub within : k ≤ length cols
   pub m-long : length mark ≡ length cols
   pub fresh : Marks k mark []
-  pub kept : Kept n stack₀ stack
+  pub kept : Kept 0 n stack₀ stack
   pub rest : startsWith (flatten (upper cols)) ui ≡ startsWith (flatten (drop k (upper cols))) (drop (entries (take k (upper cols))) ui)
 
 pub comparing-start : {cols : List (List ℕ)} (n : ℕ) (ui : List ℕ) {mark : List ℕ} (stack : List ℕ) → length mark ≡ length cols → Zeros mark → Comparing cols n ui stack mark stack 0
@@ -78,8 +79,8 @@ module _ {cols : List (List ℕ)} {n : ℕ} {par ui stack₀ mark stack up rows 
       ∙ ap (λ (a : List ℕ). startsWith (paths par k rows []) (part b f ui) && startsWith (flatten (drop (k + 1) us)) a) (drop-drop (length c) at ui ∙ ap (λ (a : ℕ). drop a ui) z)
 
   module _ {mark1 stack1 : List ℕ} {t : Bool} (q : length mark1 ≡ length mark)
-      (w : (t ≡ startsWith (paths par k rows []) (part b f ui)) × Marks k mark1 (paths par k rows []) × Kept (length (part b f ui)) stack stack1) where
-    stack-kept : Kept n stack₀ stack1
+      (w : (t ≡ startsWith (paths par k rows []) (part b f ui)) × Marks k mark1 (paths par k rows []) × Kept 0 (length (part b f ui)) stack stack1) where
+    stack-kept : Kept 0 n stack₀ stack1
     stack-kept = kept-then (v .kept) (kept-wider n held-short (w .2))
 
     pub comparing-turn : t ≡ true → Comparing cols n ui stack₀ mark1 stack1 (k + 1)
@@ -92,13 +93,13 @@ module _ {cols : List (List ℕ)} {n : ℕ} {par ui stack₀ mark stack up rows 
           rest = step ∙ ap (λ (a : Bool). a && startsWith (flatten (drop (k + 1) (upper cols))) (drop (entries (take (k + 1) (upper cols))) ui)) (sym (w .0) ∙ z);
         }
 
-    pub comparing-stop : t ≡ false → (false ≡ startsWith (flatten (upper cols)) ui) × Kept n stack₀ stack1
+    pub comparing-stop : t ≡ false → (false ≡ startsWith (flatten (upper cols)) ui) × Kept 0 n stack₀ stack1
     comparing-stop z = (
       sym (step ∙ ap (λ (a : Bool). a && startsWith (flatten (drop (k + 1) (upper cols))) (drop (entries (take (k + 1) (upper cols))) ui)) (sym (w .0) ∙ z)),
       stack-kept,
     )
 
-pub comparing-done : {cols : List (List ℕ)} {n : ℕ} {par ui stack₀ mark stack : List ℕ} {k : ℕ} → Given cols par → Comparing cols n ui stack₀ mark stack k → length cols ≤ k → (true ≡ startsWith (flatten (upper cols)) ui) × Kept n stack₀ stack
+pub comparing-done : {cols : List (List ℕ)} {n : ℕ} {par ui stack₀ mark stack : List ℕ} {k : ℕ} → Given cols par → Comparing cols n ui stack₀ mark stack k → length cols ≤ k → (true ≡ startsWith (flatten (upper cols)) ui) × Kept 0 n stack₀ stack
 unfolding flatten startsWith
 comparing-done {cols = cols} {ui = ui} {k = k} g v h =
     (sym (v .rest ∙ ap (λ (l : List (List ℕ)). startsWith (flatten l) (drop (entries (take k (upper cols))) ui)) (left-none (upper cols) k (omega (arith, upper-long g)))), v .kept)
@@ -124,7 +125,7 @@ module _ {n : ℕ} {up ui next₀ li next next1 : List ℕ} {k b f : ℕ} (v : C
   pub lower-turn : r ≡ true → Columns n up ui next₀ li next1 li (k + 1)
   lower-turn z = columns-turn v h x y (λ s. w s .agrees z)
 
-  pub lower-stop : r ≡ false → (s : Spreads n up ui next₀ li) → (false ≡ startsWith (byKey n (flatten (s .us)) (numbers 0 (s .us))) li) × Kept n next₀ next1
+  pub lower-stop : r ≡ false → (s : Spreads n up ui next₀ li) → (false ≡ startsWith (byKey n (flatten (s .us)) (numbers 0 (s .us))) li) × Kept 0 n next₀ next1
   lower-stop z s =
       let c = spreads-column s h x y v in
       let a = column-among s h x y v in
@@ -133,7 +134,7 @@ module _ {n : ℕ} {up ui next₀ li next next1 : List ℕ} {k b f : ℕ} (v : C
       (rw (a .0) at d, rw (a .1, a .2) at m)
 
 pub lower-end : {n : ℕ} {up ui next₀ li next : List ℕ} {k : ℕ} → Columns n up ui next₀ li next li k → k ≤ n → n ≤ k → (s : Spreads n up ui next₀ li)
-    → (true ≡ startsWith (byKey n (flatten (s .us)) (numbers 0 (s .us))) li) × Kept n next₀ next
+    → (true ≡ startsWith (byKey n (flatten (s .us)) (numbers 0 (s .us))) li) × Kept 0 n next₀ next
 unfolding onto
 lower-end {n = n} {li = li} v a h s =
     let d = columns-done v a h s in

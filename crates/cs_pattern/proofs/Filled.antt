@@ -8,17 +8,18 @@ use Rattle.lists.specs.Calls.{onto, cleared}
 use Rattle.lists.specs.Keys.{byKey}
 use Rattle.lists.specs.Parts.{part, placed}
 use Rattle.lists.specs.Sums.{counted, sums}
+use Rattle.lists.specs.Keeping.{Kept}
 use Rattle.lists.proofs.Clearing.{length-cleared, cleared-front}
 use Rattle.lists.proofs.Laying.{placed-front, part-long, part-onto}
 use Rattle.lists.proofs.Parts.{getD-part}
 use Rattle.cs_matrix.specs.Matrix.{pattern, ValidPattern}
 use Rattle.cs_tree.specs.Pattern.{upper, transposed, starts, entries}
-use Rattle.cs_tree.specs.Steps.{Given, Zeros, Pointed, lengths, numbers, Kept, Spreads, Whole}
+use Rattle.cs_tree.specs.Steps.{Given, Zeros, Pointed, lengths, numbers, Spreads, Whole}
 use Rattle.cs_tree.specs.Tree.{tree}
 use Rattle.cs_tree.proofs.Count.{length-starts}
 use Rattle.cs_tree.proofs.Filling.{upper-long}
 use Rattle.cs_tree.proofs.Growing.{tree-long}
-use Rattle.cs_tree.proofs.Keeping.{kept-then, kept-wider, kept-cleared, kept-onto, kept-placed}
+use Rattle.lists.proofs.Keeping.{kept-then, kept-wider, kept-cleared, kept-onto, kept-placed}
 use Rattle.cs_tree.proofs.Laid.{length-lengths}
 use Rattle.cs_tree.proofs.Lowering.{fronts, sums-a, sums-b, pointed-onto, counted-are, next1-long, spreads, put-is, next-kept, entries-lower, lower-long}
 use Rattle.cs_pattern.specs.Columns.{columns}
@@ -51,10 +52,10 @@ module _ {n : ℕ} {p i : List ℕ} (v : ValidPattern (pattern n n p i)) where
     a-long : length a ≡ n
     a-long = f ∙ part-long n w2 l2
 
-    kept-a : Kept n w2 (placed 0 n w2 a)
+    kept-a : Kept 0 n w2 (placed 0 n w2 a)
     kept-a = kept-placed n w2 a a-long l2
 
-    kept-b : Kept n w2 w2b
+    kept-b : Kept 0 n w2 w2b
     kept-b = kept-then kept-a (kept-cleared n g)
 
     pub begin-asks : ValidPattern (pattern n n p i) × Given C (part 0 n (placed 0 n w1 t)) × (length (part 0 n w2b) ≡ n) × Zeros (part 0 n w2b) × (length (part 0 n w3) ≡ n)
@@ -86,8 +87,8 @@ module _ {n : ℕ} {p i : List ℕ} (v : ValidPattern (pattern n n p i)) where
     pub up-pointed : {b : List ℕ} → b ≡ onto (part 0 (n + 1) up) (sums 0 (fronts (n + 1) counts up)) → Pointed (upper C) (placed 0 (n + 1) up b)
     up-pointed y = rw (up-is y) (pointed-onto (upper C) up (omega (arith, upper-size)))
 
-    pub counts-kept : {a : List ℕ} → a ≡ onto (part 0 (n + 1) counts) (sums 0 (fronts (n + 1) counts up)) → Kept (n + 1) counts (placed 0 (n + 1) counts a)
-    counts-kept x = rw (sums-a (upper C) (n + 1) counts up sure l m h fits x) (kept-onto (n + 1) counts (starts 0 (upper C)) (omega (arith, length-starts 0 (upper C), upper-size)) l)
+    pub counts-kept : {a : List ℕ} → a ≡ onto (part 0 (n + 1) counts) (sums 0 (fronts (n + 1) counts up)) → Kept 0 (n + 1) counts (placed 0 (n + 1) counts a)
+    counts-kept x = rw (sums-a (upper C) (n + 1) counts up sure l m h fits x) (kept-onto (n + 1) counts (starts 0 (upper C)) (omega (arith, length-starts 0 (upper C), upper-size)) (omega (arith, length-starts 0 (upper C), upper-size, l)))
 
 -- ---- `fill_lower`
 module _ {n t : ℕ} {up ui : List ℕ} (next lp li : List ℕ) (l : n + 1 ≤ length next) (m : n + 1 ≤ length lp) (o : t ≤ length li)
@@ -122,8 +123,8 @@ module _ {n t : ℕ} {up ui : List ℕ} (next lp li : List ℕ) (l : n + 1 ≤ l
     lower-asks = (w .small, rw next-is (spreads w (n + 1) next refl l li o))
 
     pub lower-done : {li1 next1 : List ℕ}
-        → ((s : Spreads n up ui (placed 0 (n + 1) k a) li) → (li1 ≡ onto li (byKey n (flatten (s .us)) (numbers 0 (s .us)))) × Kept n (placed 0 (n + 1) k a) next1)
-        → (placed 0 (n + 1) lp b ≡ onto lp (starts 0 ls)) × (li1 ≡ onto li (flatten ls)) × Kept (n + 1) next next1
+        → ((s : Spreads n up ui (placed 0 (n + 1) k a) li) → (li1 ≡ onto li (byKey n (flatten (s .us)) (numbers 0 (s .us)))) × Kept 0 n (placed 0 (n + 1) k a) next1)
+        → (placed 0 (n + 1) lp b ≡ onto lp (starts 0 ls)) × (li1 ≡ onto li (flatten ls)) × Kept 0 (n + 1) next next1
     lower-done {li1 = li1} {next1 = next1} g =
         let h = rw next-is at g in
         let r = h (spreads w (n + 1) next refl l li o) in

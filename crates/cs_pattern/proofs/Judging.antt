@@ -13,6 +13,7 @@ use Rattle.lists.specs.Calls.{lowest, onto, cleared, Scratch, scratch, narrow, 
 use Rattle.lists.specs.Keys.{byKey}
 use Rattle.lists.specs.Parts.{part, placed}
 use Rattle.lists.specs.Sums.{counted, sums}
+use Rattle.lists.specs.Keeping.{Kept}
 use Rattle.lists.proofs.Bools.{and-false, and-true}
 use Rattle.lists.proofs.Calls.{first, then, early}
 use Rattle.lists.proofs.Clearing.{length-cleared}
@@ -20,10 +21,10 @@ use Rattle.lists.proofs.Laying.{part-onto, part-front, part-long}
 use Rattle.lists.proofs.Parts.{length-onto, getD-onto-front}
 use Rattle.cs_matrix.specs.Matrix.{Pattern, pattern, needed, ValidPattern}
 use Rattle.cs_tree.specs.Pattern.{Analysis, analysis, analysed, upper, lower, transposed, starts, entries}
-use Rattle.cs_tree.specs.Steps.{Given, Zeros, Pointed, lengths, numbers, Kept, Spreads, Whole}
+use Rattle.cs_tree.specs.Steps.{Given, Zeros, Pointed, lengths, numbers, Spreads, Whole}
 use Rattle.cs_tree.specs.Tree.{tree}
 use Rattle.cs_tree.proofs.Count.{length-starts}
-use Rattle.cs_tree.proofs.Keeping.{kept-all, kept-then, kept-wider, kept-cleared, kept-onto, kept-placed}
+use Rattle.lists.proofs.Keeping.{kept-all, kept-then, kept-wider, kept-cleared, kept-onto, kept-placed}
 use Rattle.cs_tree.proofs.Laid.{length-laid, start-at}
 use Rattle.cs_tree.proofs.Laws.{fill-upper}
 use Rattle.cs_tree.proofs.Lowering.{fronts, sums-a, sums-b, counted-are, next1-long, spreads, put-is, next-kept, entries-lower, lower-long}
@@ -42,7 +43,7 @@ use Rattle.cs_pattern.proofs.Squaring.{judged6, early-6, Prepared, unpr
 module _ (n : ℕ) (counts held : List ℕ) (sum : List ℕ) (l : n + 1 ≤ length sum) {a b : List ℕ} {r : Bool}
     (x : a ≡ onto (part 0 (n + 1) counts) (sums 0 (fronts (n + 1) counts sum))) (y : b ≡ onto (part 0 (n + 1) sum) (sums 0 (fronts (n + 1) counts sum))) where
   pub pointers-told : r ≡ startsWith (part 0 (n + 1) (placed 0 (n + 1) sum b)) held → (s : Counts n counts)
-      → (r ≡ startsWith (starts 0 (s .us)) held) × (placed 0 (n + 1) counts a ≡ onto counts (starts 0 (s .us))) × Kept (n + 1) sum (placed 0 (n + 1) sum b)
+      → (r ≡ startsWith (starts 0 (s .us)) held) × (placed 0 (n + 1) counts a ≡ onto counts (starts 0 (s .us))) × Kept 0 (n + 1) sum (placed 0 (n + 1) sum b)
   pointers-told e s =
       let m : n + 1 ≡ length (s .us) + 1 = omega (arith, s .size) in
       let z : length (starts 0 (s .us)) ≡ n + 1 = omega (arith, length-starts 0 (s .us), s .size) in
@@ -50,7 +51,7 @@ module _ (n : ℕ) (counts held : List ℕ) (sum : List ℕ) (l : n + 1 ≤ leng
       let q = sums-b (s .us) (n + 1) counts sum m (s .room) l (s .are) f y in (
         e ∙ ap (λ (g : List ℕ). startsWith g held) (ap (part 0 (n + 1)) q ∙ part-onto (n + 1) sum (starts 0 (s .us)) z),
         sums-a (s .us) (n + 1) counts sum m (s .room) l (s .are) f x,
-        rw q (kept-onto (n + 1) sum (starts 0 (s .us)) (omega arith) l),
+        rw q (kept-onto (n + 1) sum (starts 0 (s .us)) (omega arith) (omega (arith, l))),
       )
 
 -- ---- `same_upper`
@@ -73,7 +74,7 @@ module _ {n t : ℕ} {p i : List ℕ} (v : ValidPattern (pattern n n p i)) {w1 w
       tree-told : r ≡ startsWith (tree C) tr
       tree-told = e ∙ ap (λ (g : List ℕ). startsWith g tr) (F .tree-is)
 
-      pub tree-differs : r ≡ false → (false ≡ answer) × Kept (n + 1) w1 w1 × Kept (n + 1) w2 w2 × Kept (n + 1) w3 w3
+      pub tree-differs : r ≡ false → (false ≡ answer) × Kept 0 (n + 1) w1 w1 × Kept 0 (n + 1) w2 w2 × Kept 0 (n + 1) w3 w3
       tree-differs h = (rw (← tree-told, h), kept-all (n + 1) w1, kept-all (n + 1) w2, kept-all (n + 1) w3)
 
       module _ (h : r ≡ true) where
@@ -88,15 +89,15 @@ module _ {n t : ℕ} {p i : List ℕ} (v : ValidPattern (pattern n n p i)) {w1 w
 
         -- the pointers
         module _ {w1a w3a : List ℕ} {s : Bool}
-            (g : (c : Counts n w3) → (s ≡ startsWith (starts 0 (c .us)) up) × (w3a ≡ onto w3 (starts 0 (c .us))) × Kept (n + 1) w1 w1a) where
-          ups-told : (s ≡ startsWith (starts 0 (upper C)) up) × (w3a ≡ onto w3 (starts 0 (upper C))) × Kept (n + 1) w1 w1a
+            (g : (c : Counts n w3) → (s ≡ startsWith (starts 0 (c .us)) up) × (w3a ≡ onto w3 (starts 0 (c .us))) × Kept 0 (n + 1) w1 w1a) where
+          ups-told : (s ≡ startsWith (starts 0 (upper C)) up) × (w3a ≡ onto w3 (starts 0 (upper C))) × Kept 0 (n + 1) w1 w1a
           unfolding counts-are
           ups-told = g counts-are
 
-          kept3 : Kept (n + 1) w3 w3a
-          kept3 = rw (ups-told .1) (kept-onto (n + 1) w3 (starts 0 (upper C)) (omega (arith, length-starts 0 (upper C), upper-size v)) (F .w3-long))
+          kept3 : Kept 0 (n + 1) w3 w3a
+          kept3 = rw (ups-told .1) (kept-onto (n + 1) w3 (starts 0 (upper C)) (omega (arith, length-starts 0 (upper C), upper-size v)) (omega (arith, length-starts 0 (upper C), upper-size v, F .w3-long)))
 
-          pub up-differs : s ≡ false → (false ≡ answer) × Kept (n + 1) w1 w1a × Kept (n + 1) w2 w2 × Kept (n + 1) w3 w3a
+          pub up-differs : s ≡ false → (false ≡ answer) × Kept 0 (n + 1) w1 w1a × Kept 0 (n + 1) w2 w2 × Kept 0 (n + 1) w3 w3a
           up-differs z = (rw (tree-same, ← ups-told .0, z), ups-told .2, kept-all (n + 1) w2, kept3)
 
           module _ (z : s ≡ true) where
@@ -110,7 +111,7 @@ module _ {n t : ℕ} {p i : List ℕ} (v : ValidPattern (pattern n n p i)) {w1 w
                   at = λ k l. sym (starts-at (starts 0 (upper C)) up up-same k (omega (arith, length-starts 0 (upper C)))) ∙ start-at (upper C) k l;
                 }
 
-            pub ui-short : length ui < t → (false ≡ answer) × Kept (n + 1) w1 w1a × Kept (n + 1) w2 w2 × Kept (n + 1) w3 w3a
+            pub ui-short : length ui < t → (false ≡ answer) × Kept 0 (n + 1) w1 w1a × Kept 0 (n + 1) w2 w2 × Kept 0 (n + 1) w3 w3a
             ui-short d = (rw (tree-same, up-same) (starts-short (flatten (upper C)) ui (omega (arith, length-laid (upper C), size))), ups-told .2, kept-all (n + 1) w2, kept3)
 
             module _ {w2a : List ℕ} (c : w2a ≡ cleared 0 n w2) (d : t ≤ length ui) where
@@ -121,8 +122,8 @@ module _ {n t : ℕ} {p i : List ℕ} (v : ValidPattern (pattern n n p i)) {w1 w
                   × Pointed (upper C) up × (entries (upper C) ≤ length ui)
               columns-asks = (v, tree-given, part-long n w2a long2a, zeros-front n w2 (omega (arith, F .w2-long)) c, omega (arith, ups-told .2 .long, F .w1-long), up-pointed, omega (arith, size))
 
-              pub upper-told : {w1b : List ℕ} (ys : List ℕ) {q : Bool} → length ys ≡ length (part 0 n w2a) → (q ≡ startsWith (flatten (upper C)) ui) × Kept n w1a w1b
-                  → (q ≡ answer) × Kept (n + 1) w1 w1b × Kept (n + 1) w2 (placed 0 n w2a ys) × Kept (n + 1) w3 w3a
+              pub upper-told : {w1b : List ℕ} (ys : List ℕ) {q : Bool} → length ys ≡ length (part 0 n w2a) → (q ≡ startsWith (flatten (upper C)) ui) × Kept 0 n w1a w1b
+                  → (q ≡ answer) × Kept 0 (n + 1) w1 w1b × Kept 0 (n + 1) w2 (placed 0 n w2a ys) × Kept 0 (n + 1) w3 w3a
               upper-told ys k o = (
                 rw (tree-same, up-same) (o .0),
                 kept-then (ups-told .2) (kept-wider (n + 1) (omega arith) (o .1)),
@@ -132,7 +133,7 @@ module _ {n t : ℕ} {p i : List ℕ} (v : ValidPattern (pattern n n p i)) {w1 w
 
 -- ---- `same_lower`
 module _ {n t : ℕ} {up ui : List ℕ} (lp li w1 w3 : List ℕ) (l1 : n + 1 ≤ length w1) (l3 : n + 1 ≤ length w3) where
-  pub li-short : length li < t → (w : Whole n t up ui) → (false ≡ (startsWith (starts 0 (transposed (w .us))) lp && startsWith (flatten (transposed (w .us))) li)) × Kept (n + 1) w1 w1 × Kept (n + 1) w3 w3
+  pub li-short : length li < t → (w : Whole n t up ui) → (false ≡ (startsWith (starts 0 (transposed (w .us))) lp && startsWith (flatten (transposed (w .us))) li)) × Kept 0 (n + 1) w1 w1 × Kept 0 (n + 1) w3 w3
   li-short h w = (
     sym
         (ap (λ (b : Bool). startsWith (starts 0 (transposed (w .us))) lp && b) (sym (starts-short (flatten (transposed (w .us))) li (omega (arith, length-laid (transposed (w .us)), entries-lower w))))
@@ -162,25 +163,25 @@ module _ {n t : ℕ} {up ui : List ℕ} (lp li w1 w3 : List ℕ) (l1 : n + 1 ≤
         l1,
       )
 
-      module _ {w1a k1 : List ℕ} {s : Bool} (g : (c : Counts n k) → (s ≡ startsWith (starts 0 (c .us)) lp) × (k1 ≡ onto k (starts 0 (c .us))) × Kept (n + 1) w1 w1a) where
-        lps-told : (s ≡ startsWith (starts 0 ls) lp) × (k1 ≡ onto k (starts 0 ls)) × Kept (n + 1) w1 w1a
+      module _ {w1a k1 : List ℕ} {s : Bool} (g : (c : Counts n k) → (s ≡ startsWith (starts 0 (c .us)) lp) × (k1 ≡ onto k (starts 0 (c .us))) × Kept 0 (n + 1) w1 w1a) where
+        lps-told : (s ≡ startsWith (starts 0 ls) lp) × (k1 ≡ onto k (starts 0 ls)) × Kept 0 (n + 1) w1 w1a
         unfolding lower-counts
         lps-told = g (lower-counts .0)
 
         next-is : k1 ≡ onto (counted (part 0 t ui) (cleared 0 (n + 1) w3)) (starts 0 ls)
         next-is = lps-told .1 ∙ ap (λ (d : List ℕ). onto d (starts 0 ls)) counted-is
 
-        kept-k1 : Kept (n + 1) w3 k1
+        kept-k1 : Kept 0 (n + 1) w3 k1
         kept-k1 = rw next-is (next-kept w (n + 1) w3 refl l3 (kept-all n _))
 
-        pub lp-differs : s ≡ false → (false ≡ (startsWith (starts 0 ls) lp && startsWith (flatten ls) li)) × Kept (n + 1) w1 w1a × Kept (n + 1) w3 k1
+        pub lp-differs : s ≡ false → (false ≡ (startsWith (starts 0 ls) lp && startsWith (flatten ls) li)) × Kept 0 (n + 1) w1 w1a × Kept 0 (n + 1) w3 k1
         lp-differs y = (rw (← lps-told .0, y), lps-told .2, kept-k1)
 
         pub lower-spreads : (n ≤ 65535) × Spreads n up ui k1 li
         lower-spreads = (w .small, rw next-is (spreads w (n + 1) w3 refl l3 li o))
 
-        pub lower-told : {k2 : List ℕ} {q : Bool} → s ≡ true → ((c : Spreads n up ui k1 li) → (q ≡ startsWith (byKey n (flatten (c .us)) (numbers 0 (c .us))) li) × Kept n k1 k2)
-            → (q ≡ (startsWith (starts 0 ls) lp && startsWith (flatten ls) li)) × Kept (n + 1) w1 w1a × Kept (n + 1) w3 k2
+        pub lower-told : {k2 : List ℕ} {q : Bool} → s ≡ true → ((c : Spreads n up ui k1 li) → (q ≡ startsWith (byKey n (flatten (c .us)) (numbers 0 (c .us))) li) × Kept 0 n k1 k2)
+            → (q ≡ (startsWith (starts 0 ls) lp && startsWith (flatten ls) li)) × Kept 0 (n + 1) w1 w1a × Kept 0 (n + 1) w3 k2
         lower-told {k2 = k2} {q = q} y d =
             let h = rw next-is at d in
             let r = h (spreads w (n + 1) w3 refl l3 li o) in
@@ -201,7 +202,7 @@ module _ {n t : ℕ} {p i : List ℕ} (v : ValidPattern (pattern n n p i)) {w1 w
   unfolding analysed
   ui-size = length-laid (upper C8)
 
-  pub judge-many : 4194304 < t → (7 ≡ J) × Kept (n + 1) w1 w1 × Kept (n + 1) w2 w2 × Kept (n + 1) w3 w3
+  pub judge-many : 4194304 < t → (7 ≡ J) × Kept 0 (n + 1) w1 w1 × Kept 0 (n + 1) w2 w2 × Kept 0 (n + 1) w3 w3
   unfolding tight
   judge-many h = (rw (ui-size, lt-ltb 4194304 (entries (upper C8)) (omega (arith, F .count))), kept-all (n + 1) w1, kept-all (n + 1) w2, kept-all (n + 1) w3)
 
@@ -209,17 +210,17 @@ module _ {n t : ℕ} {p i : List ℕ} (v : ValidPattern (pattern n n p i)) {w1 w
     is-size : t ≡ entries (upper C8)
     is-size = omega (arith, F .count)
 
-    pub judge-tight : room < t → (7 ≡ J) × Kept (n + 1) w1 w1 × Kept (n + 1) w2 w2 × Kept (n + 1) w3 w3
+    pub judge-tight : room < t → (7 ≡ J) × Kept 0 (n + 1) w1 w1 × Kept 0 (n + 1) w2 w2 × Kept 0 (n + 1) w3 w3
     unfolding tight
     judge-tight h =
         (rw (ui-size, le-ltb 4194304 (entries (upper C8)) (omega (arith, is-size)), lt-ltb room (entries (upper C8)) (omega (arith, is-size))), kept-all (n + 1) w1, kept-all (n + 1) w2, kept-all (n + 1) w3)
 
-    module _ (l : t ≤ room) {w1a w2a w3a : List ℕ} {r : Bool} (g : (r ≡ (startsWith (tree C8) tr && startsWith (starts 0 (upper C8)) up && startsWith (flatten (upper C8)) ui)) × Kept (n + 1) w1 w1a × Kept (n + 1) w2 w2a × Kept (n + 1) w3 w3a) where
+    module _ (l : t ≤ room) {w1a w2a w3a : List ℕ} {r : Bool} (g : (r ≡ (startsWith (tree C8) tr && startsWith (starts 0 (upper C8)) up && startsWith (flatten (upper C8)) ui)) × Kept 0 (n + 1) w1 w1a × Kept 0 (n + 1) w2 w2a × Kept 0 (n + 1) w3 w3a) where
       wide-enough : tight room (analysed C8) ≡ false
       unfolding tight
       wide-enough = rw (ui-size, le-ltb 4194304 (entries (upper C8)) (omega (arith, is-size)), le-ltb room (entries (upper C8)) (omega (arith, is-size)))
 
-      pub judge-upper : r ≡ false → (8 ≡ J) × Kept (n + 1) w1 w1a × Kept (n + 1) w2 w2a × Kept (n + 1) w3 w3a
+      pub judge-upper : r ≡ false → (8 ≡ J) × Kept 0 (n + 1) w1 w1a × Kept 0 (n + 1) w2 w2a × Kept 0 (n + 1) w3 w3a
       unfolding same analysed
       judge-upper h = (rw (wide-enough, ← g .0, h), g .1, g .2, g .3)
 
@@ -256,16 +257,16 @@ module _ {n t : ℕ} {p i : List ℕ} (v : ValidPattern (pattern n n p i)) {w1 w
         judge-asks = (judge-whole, omega (arith, g .1 .long, F .w1-long), omega (arith, g .3 .long, F .w3-long))
 
         module _ {w1b w3b : List ℕ} {s : Bool}
-            (d : (w : Whole n t up ui) → (s ≡ (startsWith (starts 0 (transposed (w .us))) lp && startsWith (flatten (transposed (w .us))) li)) × Kept (n + 1) w1a w1b × Kept (n + 1) w3a w3b) where
-          lower-is : (s ≡ (startsWith (starts 0 (lower C8)) lp && startsWith (flatten (lower C8)) li)) × Kept (n + 1) w1a w1b × Kept (n + 1) w3a w3b
+            (d : (w : Whole n t up ui) → (s ≡ (startsWith (starts 0 (transposed (w .us))) lp && startsWith (flatten (transposed (w .us))) li)) × Kept 0 (n + 1) w1a w1b × Kept 0 (n + 1) w3a w3b) where
+          lower-is : (s ≡ (startsWith (starts 0 (lower C8)) lp && startsWith (flatten (lower C8)) li)) × Kept 0 (n + 1) w1a w1b × Kept 0 (n + 1) w3a w3b
           unfolding judge-whole lower
           lower-is = d judge-whole
 
-          pub judge-lower : s ≡ false → (8 ≡ J) × Kept (n + 1) w1 w1b × Kept (n + 1) w2 w2a × Kept (n + 1) w3 w3b
+          pub judge-lower : s ≡ false → (8 ≡ J) × Kept 0 (n + 1) w1 w1b × Kept 0 (n + 1) w2 w2a × Kept 0 (n + 1) w3 w3b
           unfolding same analysed
           judge-lower z = (rw (wide-enough, parts .0, parts .1, parts .2, ← lower-is .0, z), kept-then (g .1) (lower-is .1), g .2, kept-then (g .3) (lower-is .2))
 
-          pub judge-none : s ≡ true → (0 ≡ J) × Kept (n + 1) w1 w1b × Kept (n + 1) w2 w2a × Kept (n + 1) w3 w3b
+          pub judge-none : s ≡ true → (0 ≡ J) × Kept 0 (n + 1) w1 w1b × Kept 0 (n + 1) w2 w2a × Kept 0 (n + 1) w3 w3b
           unfolding same analysed
           judge-none z = (rw (wide-enough, parts .0, parts .1, parts .2, ← lower-is .0, z), kept-then (g .1) (lower-is .1), g .2, kept-then (g .3) (lower-is .2))
 
@@ -304,7 +305,7 @@ module _ {nrows n : ℕ} {p i w1 w2 w3 : List ℕ} {x : List Float} {old : Scrat
 
   pub at-end : (room : ℕ) (held : Analysis) {r : ℕ} {w1f w2f w3f : List ℕ} {s : Scratch}
       → (r ≡ lowest ((7, tight room (analysed (columns (pattern n n p i)))) ∷ (8, not (same (analysed (columns (pattern n n p i))) held)) ∷ []))
-      × Kept (n + 1) w1′ w1f × Kept (n + 1) w2′ w2f × Kept (n + 1) w3′ w3f → s ≡ wiped (n + 1) (scratch w1f w2f w3f x)
+      × Kept 0 (n + 1) w1′ w1f × Kept 0 (n + 1) w2′ w2f × Kept 0 (n + 1) w3′ w3f → s ≡ wiped (n + 1) (scratch w1f w2f w3f x)
       → (r ≡ number (pattern nrows n p i) room held old) × (s ≡ worked r (needed (pattern nrows n p i)) old)
   unfolding columns
   at-end room held g f = (

@@ -7,8 +7,9 @@ use lib.ListN.{length, take}
 use Rattle.lists.specs.Calls.{onto}
 use Rattle.lists.specs.Keys.{byKey}
 use Rattle.lists.specs.Parts.{part}
+use Rattle.lists.specs.Keeping.{Kept}
 use Rattle.cs_tree.specs.Pattern.{upper, entries, Analysis}
-use Rattle.cs_tree.specs.Steps.{lengths, Kept, Spread, Put}
+use Rattle.cs_tree.specs.Steps.{lengths, Spread, Put}
 use Rattle.cs_tree.specs.Tree.{tree}
 use Rattle.cs_pattern.specs.Compare.{startsWith}
 
@@ -16,8 +17,8 @@ use Rattle.cs_pattern.specs.Compare.{startsWith}
 pub record Begun (cols : List (List ℕ)) (n t : ℕ) (w1 w1′ w2 w2′ w3 w3′ : List ℕ) : Type 0 where
   pub count : t ≡ min (entries (upper cols)) 4194305
   pub tree-is : w1′ ≡ onto w1 (tree cols)
-  pub kept2 : Kept n w2 w2′
-  pub kept3 : Kept n w3 w3′
+  pub kept2 : Kept 0 n w2 w2′
+  pub kept3 : Kept 0 n w3 w3′
   pub lengths-are : t ≤ 4194304 → w3′ ≡ onto w3 (lengths (upper cols))
 
 -- what has to be known before anything is written
@@ -39,7 +40,7 @@ pub record Ready (cols : List (List ℕ)) (n t : ℕ) (w1 w2 w3 : List ℕ) (out
 pub record Looked {k : ℕ} {rows next li : List ℕ} (s : Spread k rows next li) (r : Bool) (next1 li1 : List ℕ) : Type 0 where
   pub agrees : r ≡ true → Put k rows next li s next1 li1 (length rows)
   pub differs : r ≡ false → false ≡ startsWith (byKey (s .n) (s .keys) (s .xs)) li1
-  pub kept : Kept (s .n) (s .next₀) next1
+  pub kept : Kept 0 (s .n) (s .next₀) next1
 
 -- the lengths of n columns, in the front of a slice
 pub record Counts (n : ℕ) (counts : List ℕ) : Type 0 where

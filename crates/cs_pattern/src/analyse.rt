@@ -4,9 +4,9 @@ ghost use mathlib.Core.Path.{_≡_};
 ghost use Prim.Native.Nat.{_+_, _≤_};
 ghost use lib.Dec.{ltb};
 ghost use Rattle.lists.specs.Calls.{scratch, lent, leaves};
+ghost use Rattle.lists.specs.Keeping.{Kept};
 ghost use Rattle.cs_matrix.specs.Matrix.{pattern, needed, ValidPattern};
 ghost use Rattle.cs_tree.specs.Pattern.{analysis, analysed};
-ghost use Rattle.cs_tree.specs.Steps.{Kept};
 ghost use Rattle.cs_pattern.specs.Analyse.{number, written};
 ghost use Rattle.cs_pattern.specs.Columns.{columns};
 ghost use Rattle.cs_pattern.specs.Promise.{Analysed};
@@ -62,7 +62,7 @@ fn fill(
     ensures { λ _. ⌜ (let old = analysis (now (tree .entry)) (now (up .entry)) (now (ui .entry)) (now (lp .entry)) (now (li .entry)) in
         let new = analysis (now (tree .exit)) (now (up .exit)) (now (ui .exit)) (now (lp .exit)) (now (li .exit)) in
         (new ≡ written (analysed (columns (pattern n n (now (p .entry)) (now (i .entry))))) old)
-        × Kept (n + 1) (now (w2 .entry)) (now (w2 .exit)) × Kept (n + 1) (now (w3 .entry)) (now (w3 .exit))) ⌝ }
+        × Kept 0 (n + 1) (now (w2 .entry)) (now (w2 .exit)) × Kept 0 (n + 1) (now (w3 .entry)) (now (w3 .exit))) ⌝ }
 {
     clear(n, w2);
     fill_upper(n, p, i, &w1[0..n], &mut w2[0..n], w3, up, ui);

@@ -5,9 +5,10 @@ ghost use mathlib.Core.Path.{_≡_};
 ghost use Prim.Native.Nat.{_+_, _≤_};
 ghost use lib.ListN.{length};
 ghost use Rattle.lists.specs.Calls.{lowest, onto, scratch, worked};
+ghost use Rattle.lists.specs.Keeping.{Kept};
 ghost use Rattle.cs_matrix.specs.Matrix.{pattern, needed, ValidPattern};
 ghost use Rattle.cs_tree.specs.Pattern.{analysis, analysed, upper, transposed, starts};
-ghost use Rattle.cs_tree.specs.Steps.{Kept, Whole};
+ghost use Rattle.cs_tree.specs.Steps.{Whole};
 ghost use Rattle.cs_tree.specs.Tree.{tree as treeOf};
 ghost use Rattle.cs_pattern.specs.Columns.{columns};
 ghost use Rattle.cs_pattern.specs.Compare.{startsWith, same as sameAs, tight, number};
@@ -27,7 +28,7 @@ fn same_pointers(n: usize, counts: &mut [u32], sums: &mut [u32], held: &[u32]) -
     requires { ⌜ Counts n (now counts) × (n ≤ 65535) × (n + 1 ≤ length (now sums)) ⌝ }
     ensures { λ r. ⌜ ((s : Counts n (now (counts .entry)))
         → (r ≡ startsWith (starts 0 (s .us)) (now (held .entry))) × (now (counts .exit) ≡ onto (now (counts .entry)) (starts 0 (s .us)))
-        × Kept (n + 1) (now (sums .entry)) (now (sums .exit))) ⌝ }
+        × Kept 0 (n + 1) (now (sums .entry)) (now (sums .exit))) ⌝ }
 {
     let m = n + 1;
     cumsum(&mut counts[0..m], &mut sums[0..m]);
@@ -50,7 +51,7 @@ fn same_upper(
     requires { ⌜ ValidPattern (pattern n n (now p) (now i)) × Fresh (columns (pattern n n (now p) (now i))) n t (now w1) (now w2) (now w3) × (t ≤ 4194304) ⌝ }
     ensures { λ r. ⌜ (let cols = columns (pattern n n (now (p .entry)) (now (i .entry))) in
         (r ≡ (startsWith (treeOf cols) (now (tree .entry)) && startsWith (starts 0 (upper cols)) (now (up .entry)) && startsWith (flatten (upper cols)) (now (ui .entry))))
-        × Kept (n + 1) (now (w1 .entry)) (now (w1 .exit)) × Kept (n + 1) (now (w2 .entry)) (now (w2 .exit)) × Kept (n + 1) (now (w3 .entry)) (now (w3 .exit))) ⌝ }
+        × Kept 0 (n + 1) (now (w1 .entry)) (now (w1 .exit)) × Kept 0 (n + 1) (now (w2 .entry)) (now (w2 .exit)) × Kept 0 (n + 1) (now (w3 .entry)) (now (w3 .exit))) ⌝ }
 {
     if !same(&w1[0..n], tree) {
         return false;
@@ -79,7 +80,7 @@ fn same_lower(
     requires { ⌜ Whole n t (now up) (now ui) × (n + 1 ≤ length (now w1)) × (n + 1 ≤ length (now w3)) ⌝ }
     ensures { λ r. ⌜ ((w : Whole n t (now (up .entry)) (now (ui .entry)))
         → (r ≡ (startsWith (starts 0 (transposed (w .us))) (now (lp .entry)) && startsWith (flatten (transposed (w .us))) (now (li .entry))))
-        × Kept (n + 1) (now (w1 .entry)) (now (w1 .exit)) × Kept (n + 1) (now (w3 .entry)) (now (w3 .exit))) ⌝ }
+        × Kept 0 (n + 1) (now (w1 .entry)) (now (w1 .exit)) × Kept 0 (n + 1) (now (w3 .entry)) (now (w3 .exit))) ⌝ }
 {
     if li.len() < t {
         return false;
@@ -112,7 +113,7 @@ fn judge(
     ensures { λ r. ⌜ (let f = analysed (columns (pattern n n (now (p .entry)) (now (i .entry)))) in
         let given = analysis (now (tree .entry)) (now (up .entry)) (now (ui .entry)) (now (lp .entry)) (now (li .entry)) in
         (r ≡ lowest ((7, tight room f) ∷ (8, not (sameAs f given)) ∷ []))
-        × Kept (n + 1) (now (w1 .entry)) (now (w1 .exit)) × Kept (n + 1) (now (w2 .entry)) (now (w2 .exit)) × Kept (n + 1) (now (w3 .entry)) (now (w3 .exit))) ⌝ }
+        × Kept 0 (n + 1) (now (w1 .entry)) (now (w1 .exit)) × Kept 0 (n + 1) (now (w2 .entry)) (now (w2 .exit)) × Kept 0 (n + 1) (now (w3 .entry)) (now (w3 .exit))) ⌝ }
 {
     if t > 4194304 {
         return 7;

@@ -4,9 +4,10 @@ ghost use mathlib.Core.Path.{_≡_};
 ghost use Prim.Native.Nat.{_+_, _≤_, min};
 ghost use lib.ListN.{length, getD, take};
 ghost use Rattle.lists.specs.Calls.{onto};
+ghost use Rattle.lists.specs.Keeping.{Kept};
 ghost use Rattle.cs_matrix.specs.Matrix.{pattern, ValidPattern};
 ghost use Rattle.cs_tree.specs.Pattern.{upper, transposed, starts, entries};
-ghost use Rattle.cs_tree.specs.Steps.{Given, Zeros, lengths, Kept, Whole};
+ghost use Rattle.cs_tree.specs.Steps.{Given, Zeros, lengths, Whole};
 ghost use Rattle.cs_tree.specs.Tree.{tree as treeOf};
 ghost use Rattle.cs_pattern.specs.Columns.{columns};
 ghost use Rattle.cs_pattern.specs.Steps.{Begun};
@@ -54,7 +55,7 @@ pub fn fill_upper(
         × (entries us ≤ 4194304) × (entries us ≤ length (now ui))) ⌝ }
     ensures { λ _. ⌜ (let us = upper (columns (pattern n n (now (p .entry)) (now (i .entry)))) in
         (now (up .exit) ≡ onto (now (up .entry)) (starts 0 us)) × (now (ui .exit) ≡ onto (now (ui .entry)) (flatten us))
-        × Kept (n + 1) (now (counts .entry)) (now (counts .exit))) ⌝ }
+        × Kept 0 (n + 1) (now (counts .entry)) (now (counts .exit))) ⌝ }
 {
     let m = n + 1;
     cumsum(&mut counts[0..m], &mut up[0..m]);
@@ -74,7 +75,7 @@ pub fn fill_lower(
     requires { ⌜ Whole n t (now up) (now ui) × (n + 1 ≤ length (now next)) × (n + 1 ≤ length (now lp)) × (t ≤ length (now li)) ⌝ }
     ensures { λ _. ⌜ ((w : Whole n t (now (up .entry)) (now (ui .entry)))
         → (now (lp .exit) ≡ onto (now (lp .entry)) (starts 0 (transposed (w .us)))) × (now (li .exit) ≡ onto (now (li .entry)) (flatten (transposed (w .us))))
-        × Kept (n + 1) (now (next .entry)) (now (next .exit))) ⌝ }
+        × Kept 0 (n + 1) (now (next .entry)) (now (next .exit))) ⌝ }
 {
     let m = n + 1;
     clear(m, next);

@@ -5,7 +5,8 @@ ghost use Prim.Native.Nat.{_≤_};
 ghost use lib.ListN.{length};
 ghost use Rattle.lists.specs.Calls.{onto};
 ghost use Rattle.lists.specs.Keys.{byKey};
-ghost use Rattle.cs_tree.specs.Steps.{Spread, Put, Spreads, numbers, Kept};
+ghost use Rattle.lists.specs.Keeping.{Kept};
+ghost use Rattle.cs_tree.specs.Steps.{Spread, Put, Spreads, numbers};
 use lists::numbers::wide;
 
 // Puts k behind the earlier entries of each of the rows; next has where those end.
@@ -28,7 +29,7 @@ fn lower_column(k: u32, rows: &[u32], next: &mut [u32], li: &mut [u32])
 pub fn lower_columns(n: usize, up: &[u32], ui: &[u32], next: &mut [u32], li: &mut [u32])
     requires { ⌜ (n ≤ 65535) × Spreads n (now up) (now ui) (now next) (now li) ⌝ }
     ensures { λ _. ⌜ ((s : Spreads n (now (up .entry)) (now (ui .entry)) (now (next .entry)) (now (li .entry)))
-        → (now (li .exit) ≡ onto (now (li .entry)) (byKey n (flatten (s .us)) (numbers 0 (s .us)))) × Kept n (now (next .entry)) (now (next .exit))) ⌝ }
+        → (now (li .exit) ≡ onto (now (li .entry)) (byKey n (flatten (s .us)) (numbers 0 (s .us)))) × Kept 0 n (now (next .entry)) (now (next .exit))) ⌝ }
 {
     let mut k = 0;
     while k < n {

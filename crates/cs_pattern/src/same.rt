@@ -4,9 +4,10 @@ ghost use mathlib.Core.Path.{_≡_};
 ghost use Prim.Native.Nat.{_≤_};
 ghost use lib.ListN.{length};
 ghost use Rattle.lists.specs.Keys.{byKey};
+ghost use Rattle.lists.specs.Keeping.{Kept};
 ghost use Rattle.cs_matrix.specs.Matrix.{pattern, ValidPattern};
 ghost use Rattle.cs_tree.specs.Pattern.{paths, upper, entries};
-ghost use Rattle.cs_tree.specs.Steps.{Walks, Marks, Given, Zeros, Pointed, Spread, Spreads, numbers, Kept};
+ghost use Rattle.cs_tree.specs.Steps.{Walks, Marks, Given, Zeros, Pointed, Spread, Spreads, numbers};
 ghost use Rattle.cs_pattern.specs.Columns.{columns};
 ghost use Rattle.cs_pattern.specs.Compare.{startsWith};
 ghost use Rattle.cs_pattern.specs.Steps.{Looked};
@@ -43,7 +44,7 @@ fn same_column(
     requires { ⌜ Walks k (now par) (now mark) × Marks k (now mark) [] × (length (now held) ≡ length (paths (now par) k (now rows) []))
         × (length (now held) ≤ length (now stack)) ⌝ }
     ensures { λ r. ⌜ (r ≡ startsWith (paths (now (par .entry)) k (now (rows .entry)) []) (now (held .entry)))
-        × Marks k (now (mark .exit)) (paths (now (par .entry)) k (now (rows .entry)) []) × Kept (length (now (held .entry))) (now (stack .entry)) (now (stack .exit)) ⌝ }
+        × Marks k (now (mark .exit)) (paths (now (par .entry)) k (now (rows .entry)) []) × Kept 0 (length (now (held .entry))) (now (stack .entry)) (now (stack .exit)) ⌝ }
 {
     let c = held.len();
     reach(k, rows, par, mark, &mut stack[0..c]);
@@ -65,7 +66,7 @@ pub fn same_columns(
         ValidPattern (pattern n n (now p) (now i)) × Given cols (now par) × (length (now mark) ≡ n) × Zeros (now mark) × (n ≤ length (now stack))
         × Pointed (upper cols) (now up) × (entries (upper cols) ≤ length (now ui))) ⌝ }
     ensures { λ r. ⌜ (r ≡ startsWith (flatten (upper (columns (pattern n n (now (p .entry)) (now (i .entry)))))) (now (ui .entry)))
-        × Kept n (now (stack .entry)) (now (stack .exit)) ⌝ }
+        × Kept 0 n (now (stack .entry)) (now (stack .exit)) ⌝ }
 {
     let mut k = 0;
     while k < n {
@@ -104,7 +105,7 @@ fn same_lower_column(k: u32, rows: &[u32], next: &mut [u32], li: &[u32]) -> bool
 pub fn same_lower_columns(n: usize, up: &[u32], ui: &[u32], next: &mut [u32], li: &[u32]) -> bool
     requires { ⌜ (n ≤ 65535) × Spreads n (now up) (now ui) (now next) (now li) ⌝ }
     ensures { λ r. ⌜ ((s : Spreads n (now (up .entry)) (now (ui .entry)) (now (next .entry)) (now (li .entry)))
-        → (r ≡ startsWith (byKey n (flatten (s .us)) (numbers 0 (s .us))) (now (li .entry))) × Kept n (now (next .entry)) (now (next .exit))) ⌝ }
+        → (r ≡ startsWith (byKey n (flatten (s .us)) (numbers 0 (s .us))) (now (li .entry))) × Kept 0 n (now (next .entry)) (now (next .exit))) ⌝ }
 {
     let mut k = 0;
     while k < n {

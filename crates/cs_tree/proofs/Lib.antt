@@ -17,5 +17,4 @@ pub mod Laid
 pub mod Filling
 pub mod Spreading
 pub mod Lowering
-pub mod Keeping
 pub mod Reread

@@ -14,6 +14,7 @@ use Rattle.lists.specs.Keys.{ofKey, byKey}
 use Rattle.lists.specs.Order.{Once}
 use Rattle.lists.specs.Parts.{part, placed}
 use Rattle.lists.specs.Sums.{counted, sums}
+use Rattle.lists.specs.Keeping.{Kept}
 use Rattle.lists.proofs.Bools.{eq-or-ne}
 use Rattle.lists.proofs.Clearing.{length-cleared, cleared-front, cleared-rest}
 use Rattle.lists.proofs.Keys.{keys-whole}
@@ -22,7 +23,7 @@ use Rattle.lists.proofs.Parts.{length-onto, getD-onto-front, getD-onto-rest}
 use Rattle.lists.proofs.Scattering.{Scatter}
 use Rattle.lists.proofs.Summing.{length-counted, counts-fit, counts-rest, length-sums}
 use Rattle.cs_tree.specs.Pattern.{starts, entries, transposed}
-use Rattle.cs_tree.specs.Steps.{lengths, numbers, Pointed, Kept, Spreads, Whole}
+use Rattle.cs_tree.specs.Steps.{lengths, numbers, Pointed, Spreads, Whole}
 use Rattle.cs_tree.proofs.Count.{length-starts, entries-across}
 use Rattle.cs_tree.proofs.Laid.{sums-starts, start-at, length-laid, laid-at, length-numbers, length-lengths, transposed-length, transposed-start, length-transposed, laid-transposed}
 
@@ -198,7 +199,7 @@ module _ {n t : ℕ} {up ui : List ℕ} (w : Whole n t up ui) where
     unfolding spreads
     put-is li o = ap (λ (k : ℕ). byKey k ks xs) (sym (w .count)) ∙ sym (laid-transposed us (w .once))
 
-    pub next-kept : {next3 : List ℕ} → Kept n next2 next3 → Kept m next₀ next3
+    pub next-kept : {next3 : List ℕ} → Kept 0 n next2 next3 → Kept 0 m next₀ next3
     next-kept v =
         record {
           long = v .long ∙ next2-long;

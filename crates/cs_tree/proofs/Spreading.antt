@@ -9,12 +9,13 @@ use lib.Seq.{set-getD, take-all}
 use Rattle.lists.specs.Calls.{onto}
 use Rattle.lists.specs.Keys.{byKey}
 use Rattle.lists.specs.Parts.{part}
+use Rattle.lists.specs.Keeping.{Kept}
 use Rattle.lists.proofs.Keys.{keys-whole}
 use Rattle.lists.proofs.Parts.{length-part, getD-part}
 use Rattle.lists.proofs.Placing.{next-holds}
 use Rattle.lists.proofs.Scattering.{Scatter, Scattering, scattering-start, scattering-turn, scattering-done, r-in-w, at-in, at-in-out}
 use Rattle.cs_tree.specs.Pattern.{entries}
-use Rattle.cs_tree.specs.Steps.{numbers, Pointed, Kept, Spread, Put, Spreads}
+use Rattle.cs_tree.specs.Steps.{numbers, Pointed, Spread, Put, Spreads}
 use Rattle.cs_tree.proofs.Laid.{length-laid, length-numbers, entries-more, entries-part, numbered-at}
 
 -- ---- one column: `lower_column`
@@ -55,7 +56,7 @@ module _ {k : ℕ} {rows next₀ li₀ next li : List ℕ} {q : ℕ} (v : Going 
   going-holds s = (rw (row s) at (next-holds (v s) (inside s))) ∙ s .numbered q h
 
   -- no more than n places of `next` have changed
-  pub going-kept : (s : Spread k rows next₀ li₀) → Kept (s .n) (s .next₀) next
+  pub going-kept : (s : Spread k rows next₀ li₀) → Kept 0 (s .n) (s .next₀) next
   going-kept s = record { long = v s .w-same; rest = v s .w-rest }
 
   pub going-turn : {t : ℕ} → t ≡ getD next j 0 → Going k rows next₀ li₀ (set next j (getD next j 0 + 1)) (set li t k) (q + 1)
@@ -143,7 +144,7 @@ module _ {n : ℕ} {up ui next₀ li₀ next li : List ℕ} {k : ℕ} (v : Colum
   whole : (s : Spreads n up ui next₀ li₀) → length (flatten (s .us)) ≤ entries (take k (s .us))
   whole s = let e : take k (s .us) ≡ s .us = take-all k (s .us) (omega (arith, s .count)) in rw e (omega (arith, length-laid (s .us)))
 
-  pub columns-done : (s : Spreads n up ui next₀ li₀) → (li ≡ onto li₀ (byKey n (flatten (s .us)) (numbers 0 (s .us)))) × Kept n next₀ next
+  pub columns-done : (s : Spreads n up ui next₀ li₀) → (li ≡ onto li₀ (byKey n (flatten (s .us)) (numbers 0 (s .us)))) × Kept 0 n next₀ next
   columns-done s = (scattering-done (v s) (whole s), record { long = v s .w-same; rest = v s .w-rest })
 
 -- a column's entries stand among all of U's

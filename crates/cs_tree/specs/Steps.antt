@@ -70,11 +70,6 @@ pub record Pointed (us : List (List ℕ)) (up : List ℕ) : Type 0 where
   pub long : length us < length up
   pub at : (k : ℕ) → k ≤ length us → getD up k 0 ≡ entries (take k us)
 
--- the first n places may have changed, and nothing else
-pub record Kept (n : ℕ) (old new : List ℕ) : Type 0 where
-  pub long : length new ≡ length old
-  pub rest : (q : ℕ) → n ≤ q → getD new q 0 ≡ getD old q 0
-
 -- column k of U, its rows being next among the entries that are put by their rows into li: `next` has the next place of each
 pub record Spread (k : ℕ) (rows next li : List ℕ) : Type 0 where
   pub n : ℕ

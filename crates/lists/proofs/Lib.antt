@@ -18,3 +18,4 @@ pub mod Placing
 pub mod Choices
 pub mod Pairs
 pub mod Chosen
+pub mod Keeping

@@ -6,3 +6,4 @@ pub mod Keys
 pub mod Sums
 pub mod Calls
 pub mod Choices
+pub mod Keeping
