@@ -1,0 +1,3 @@
+pub mod Walking
+pub mod Columns
+pub mod Relent
