@@ -3,3 +3,4 @@ pub mod Refusing
 pub mod Validity
 pub mod Falling
 pub mod Rooms
+pub mod Values

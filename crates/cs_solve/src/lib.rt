@@ -5,6 +5,7 @@ pub mod solve;
 pub mod tr_solve;
 
 // A solve's answer: its number, and with 10 the column, else 0.
+#[repr(C)]
 pub struct Solved {
     pub number: u32,
     pub column: u32,

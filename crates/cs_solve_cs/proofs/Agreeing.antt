@@ -26,6 +26,7 @@ use Rattle.cs_solve_cs.specs.Agree.{Harmless, Agrees}
 use Rattle.cs_solve_cs.specs.Reach.{reached}
 use Rattle.cs_solve_cs.specs.SolveCs.{putAt, right, steps, solution}
 use Rattle.lists.proofs.Chosen.{along-more, chosen-member, member-chosen}
+use Rattle.lists.proofs.Spots.{member-at}
 use Rattle.cs_solve_cs.proofs.Least.{row-below, hit-row, hit-stored}
 use Rattle.cs_solve_cs.proofs.Reaching.{reaches, below-is}
 
@@ -41,11 +42,6 @@ over-two P f g (i ∷ rows) (v ∷ vals) h s u p = over-two P f g rows vals (λ 
 over-one : {S : Type 0} (P : S → Type 0) (f : ℕ → Float → S → S) (rows : List ℕ) (vals : List Float)
     → ((k : ℕ) → k < length rows → (s : S) → P s → P (f (getD rows k 0) (getD vals k nan) s)) → (s : S) → P s → P (over f rows vals s)
 over-one P f rows vals h s p = over-two (λ s (n : ℕ). P s) f (λ i v n. n) rows vals (λ k l s n. h k l s) s 0 p
-
-member-at : (l : List ℕ) (k : ℕ) → k < length l → List·Memᴰ (getD l k 0) l
-member-at [] k h = absurd (omega arith)
-member-at (x ∷ l) zero h = List·Memᴰ·head refl
-member-at (x ∷ l) (suc k) h = List·Memᴰ·tail (member-at l k (omega arith))
 
 value-at : (f : ℕ → Float) (l : List ℕ) (q : ℕ) → q < length l → getD (map f l) q nan ≡ f (getD l q 0)
 value-at f [] q h = absurd (omega arith)

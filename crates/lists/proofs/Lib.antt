@@ -19,3 +19,7 @@ pub mod Choices
 pub mod Pairs
 pub mod Chosen
 pub mod Keeping
+pub mod Pushing
+pub mod Returning
+pub mod Spots
+pub mod Fronts

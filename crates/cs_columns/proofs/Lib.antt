@@ -1,0 +1,4 @@
+pub mod Judging
+pub mod Joining
+pub mod Filling
+pub mod Merging

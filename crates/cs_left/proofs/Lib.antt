@@ -1,0 +1,10 @@
+pub mod Positions
+pub mod Columns
+pub mod Crossing
+pub mod Within
+pub mod Straying
+pub mod Cutting
+pub mod Placed
+pub mod Turning
+pub mod Working
+pub mod Ways

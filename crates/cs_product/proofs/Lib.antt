@@ -1,0 +1,6 @@
+pub mod Onces
+pub mod Meeting
+pub mod Draining
+pub mod Sorted
+pub mod Remaining
+pub mod Produced

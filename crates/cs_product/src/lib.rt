@@ -1,0 +1,6 @@
+// The product of two matrices, after cs_matrix_ops.rs.
+mod accumulate;
+mod columns;
+mod gather;
+pub mod product;
+mod sorting;

@@ -1,0 +1,92 @@
+-- `take_rows`: rows of a column of L taken from x, and that the definition's tests leave out the diagonal alone. Assumes nothing.
+use mathlib.Core.List.{List, [], _∷_}
+use mathlib.Core.Path.{_≡_, refl, sym, ap, _∙_}
+use Prim.Native.Nat.{ℕ, suc, _+_, _-_, _≤_, _<_}
+use native.Mathlib.Omega.{arith}
+use lib.Ieee.{Float, nan, binary64, sub, mul}
+use lib.ListN.{length, getD, set, take, length-set}
+use lib.Seq.{getD-set-other}
+use borrow.Author.Tests.{lt-ltb, le-ltb, eq-eqb}
+use Rattle.lists.specs.Folds.{over}
+use Rattle.lists.specs.Parts.{part}
+use Rattle.lists.proofs.Folds.{Over, over-start, over-turn, over-end}
+use Rattle.lists.proofs.Parts.{length-part, getD-part}
+use Rattle.lists.proofs.Pushing.{part-first, part-shorter}
+use Rattle.cs_matrix.specs.Matrix.{valueAt}
+use Rattle.cs_up.specs.Steps.{takeAt, Takes}
+use Rattle.cs_up.specs.Up.{subAt}
+
+-- ---- the loop
+pub record Taking (t : Float) (rows : List ℕ) (vals x₀ x : List Float) (z : ℕ) : Type 0 where
+  pub ask : Takes rows vals x₀
+  pub long : length x ≡ length x₀
+  pub rest : Over (takeAt t) rows vals x₀ x z
+
+pub taking-start : (t : Float) {rows : List ℕ} {vals x : List Float} → Takes rows vals x → Taking t rows vals x x 0
+taking-start t {rows} {vals} {x} a = record { ask = a; long = refl; rest = over-start (takeAt t) rows vals x }
+
+module _ {t : Float} {rows : List ℕ} {vals x₀ x : List Float} {z : ℕ} (w : Taking t rows vals x₀ x z) where
+  module _ (h : z < length rows) {r : ℕ} (e : r ≡ getD rows z 0) where
+    pub taking-row : r < length x
+    taking-row = omega (arith, w .ask .below z h, w .long)
+
+    pub taking-turn : Taking t rows vals x₀ (set x r (sub binary64 (getD x r nan) (mul binary64 (getD vals z nan) t))) (z + 1)
+    unfolding takeAt
+    taking-turn = record {
+      ask = w .ask;
+      long = length-set x r _ ∙ w .long;
+      rest = over-turn (takeAt t) rows vals 0 nan (w .ask .alike) (w .rest) h (rw e);
+    }
+
+  pub taking-done : length rows ≤ z → x ≡ over (takeAt t) rows vals x₀
+  taking-done g = over-end (takeAt t) rows vals (w .rest) g
+
+-- ---- what it leaves
+pub length-taken : (t : Float) (rows : List ℕ) (vals x : List Float) → length (over (takeAt t) rows vals x) ≡ length x
+unfolding over takeAt
+length-taken t [] vals x = refl
+length-taken t (r ∷ rows) [] x = refl
+length-taken t (r ∷ rows) (v ∷ vals) x = length-taken t rows vals _ ∙ length-set x r _
+
+-- at a row that is not taken
+pub taken-other : (t : Float) (rows : List ℕ) (vals x : List Float) (i : ℕ) → ((z : ℕ) → z < length rows → getD rows z 0 ≡ i → ⊥) → getD (over (takeAt t) rows vals x) i nan ≡ getD x i nan
+unfolding over takeAt
+taken-other t [] vals x i h = refl
+taken-other t (r ∷ rows) [] x i h = refl
+taken-other t (r ∷ rows) (v ∷ vals) x i h = taken-other t rows vals _ i (λ z l. h (suc z) (omega arith)) ∙ getD-set-other x r i _ nan (λ (e : i ≡ r). h 0 (omega arith) (sym e))
+
+-- ---- the definition's tests
+over-first : (f : ℕ → Float → List Float → List Float) (r : ℕ) (v : Float) (rows : List ℕ) (vals x : List Float) → over f (r ∷ rows) (v ∷ vals) x ≡ over f rows vals (f r v x)
+unfolding over
+over-first f r v rows vals x = refl
+
+module _ (j k : ℕ) (t : Float) where
+  sub-take : (r : ℕ) (v : Float) (x : List Float) → j < r → r < k → subAt j k t r v x ≡ takeAt t r v x
+  unfolding subAt takeAt
+  sub-take r v x g h = rw (lt-ltb j r g, lt-ltb r k h)
+
+  sub-diagonal : (r : ℕ) (v : Float) (x : List Float) → r ≡ j → subAt j k t r v x ≡ x
+  unfolding subAt
+  sub-diagonal r v x e = rw (le-ltb j r (omega arith))
+
+  subs-take : (rows : List ℕ) (vals x : List Float) → ((z : ℕ) → z < length vals → (j < getD rows z 0) × (getD rows z 0 < k)) → over (subAt j k t) rows vals x ≡ over (takeAt t) (take (length vals) rows) vals x
+  unfolding over
+  subs-take [] [] x h = refl
+  subs-take [] (v ∷ vals) x h = refl
+  subs-take (r ∷ rows) [] x h = refl
+  subs-take (r ∷ rows) (v ∷ vals) x h = rw (sub-take r v x (h 0 (omega arith) .0) (h 0 (omega arith) .1)) (subs-take rows vals (takeAt t r v x) (λ z l. h (suc z) (omega arith)))
+
+-- a column of L whose rows lie from s to hi and whose values lie from s to e, the diagonal first
+module _ (j k s e hi : ℕ) (li : List ℕ) (lx : List Float) (b : s < e) (o : e ≤ hi) (g : hi ≤ length li) (f : e ≤ length lx) (d : getD li s 0 ≡ j) where
+  pub first-value : valueAt j (part s hi li) (part s e lx) ≡ getD lx s nan
+  unfolding valueAt
+  first-value = rw (part-first s hi li 0 (omega arith) g, part-first s e lx nan b f, eq-eqb (getD li s 0) j d)
+
+  pub column-takes : ((z : ℕ) → s < z → z < e → (j < getD li z 0) × (getD li z 0 < k)) → (t : Float) (x : List Float) → over (subAt j k t) (part s hi li) (part s e lx) x ≡ over (takeAt t) (part (s + 1) e li) (part (s + 1) e lx) x
+  column-takes h t x =
+      let l = length-part (s + 1) e lx f in
+      rw (part-first s hi li 0 (omega arith) g, part-first s e lx nan b f)
+      (over-first (subAt j k t) (getD li s 0) (getD lx s nan) (part (s + 1) hi li) (part (s + 1) e lx) x
+      ∙ ap (over (subAt j k t) (part (s + 1) hi li) (part (s + 1) e lx)) (sub-diagonal j k t (getD li s 0) (getD lx s nan) x d)
+      ∙ subs-take j k t (part (s + 1) hi li) (part (s + 1) e lx) x (λ z m. rw (getD-part (s + 1) hi li z 0 (omega arith)) (h (s + 1 + z) (omega arith) (omega arith)))
+      ∙ (rw (l, part-shorter (s + 1) e hi li o)))

@@ -1,0 +1,3 @@
+pub mod Up
+pub mod Steps
+pub mod Cases

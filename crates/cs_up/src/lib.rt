@@ -1,0 +1,4 @@
+// The up factoring, after cs_matrix_cholesky.rs.
+mod row;
+mod start;
+pub mod up;

@@ -1,0 +1,2 @@
+// A job's entries assembled and analysed.
+pub mod prepare;
