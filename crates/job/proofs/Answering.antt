@@ -75,19 +75,18 @@ output-long s v =
     let b = o .job .right in
     let r = resultOf o in
     let h : length (r .x) ≤ 256 =
-        after-long (o .number) 0 256 _
-        (after-long _ 0 256 _ (after-long _ _ 256 _ (after-long _ _ 256 _ (after-long _ _ 256 _ (omega (arith, solution-long (lowerMatrix (assembled (tripletsOf (o .job))) (factoring (o .job .engine) (assembled (tripletsOf (o .job))))) b, v .right, v .n)))))) in
+    after-long (o .number) 0 256 _
+    (after-long _ 0 256 _ (after-long _ _ 256 _ (after-long _ _ 256 _ (after-long _ _ 256 _ (omega (arith, solution-long (lowerMatrix (assembled (tripletsOf (o .job))) (factoring (o .job .engine) (assembled (tripletsOf (o .job))))) b, v .right, v .n)))))) in
     text-long (r .number) (r .column) 256 (r .x) h (omega arith)
 
 answers : (s old : List ℕ) (r : Wrote) (new : List ℕ) (ls : List Line) → text ls ≡ output s → Within (readFile s .job) → (r ≡ answer (text ls) old) × (new ≡ leaves (text ls) old) → Answers s old r new
 unfolding output
-answers s old r new ls e v c =
-    (
-      c .0 ∙ ap (λ (w : List ℕ). answer w old) e,
-      c .1 ∙ ap (λ (w : List ℕ). leaves w old) e,
-      output-long s v,
-      λ m h. ap (λ (o : Outcome). written (resultOf o)) (past-longest s m h),
-    )
+answers s old r new ls e v c = (
+  c .0 ∙ ap (λ (w : List ℕ). answer w old) e,
+  c .1 ∙ ap (λ (w : List ℕ). leaves w old) e,
+  output-long s v,
+  λ m h. ap (λ (o : Outcome). written (resultOf o)) (past-longest s m h),
+)
 
 -- a list that was written to the front
 front-fits : {A : Type 0} (d g l : List A) (k : ℕ) → l ≡ onto d g → k ≡ length g → (k ≤ length l) × (take k l ≡ g)

@@ -129,9 +129,9 @@ number-own : (engine : ℕ) (a : Matrix) (g : Analysis) → same (analysed (colu
 unfolding factorNumber leftNumber upNumber
 number-own engine a g e old =
     ap (λ (js : List (ℕ × Bool)).
-      cond (eqb engine 1)
-      (lowest (js ++ (9, strays a) ∷ (11, eqb (left a .answer .number) 11) ∷ []))
-      (lowest (js ++ (11, eqb (up a .answer .number) 11) ∷ [])))
+    cond (eqb engine 1)
+    (lowest (js ++ (9, strays a) ∷ (11, eqb (left a .answer .number) 11) ∷ []))
+    (lowest (js ++ (11, eqb (up a .answer .number) 11) ∷ [])))
     (judged-own a g e (length (old .out)) (old .work))
 
 -- ---- L in the fronts of the slices
@@ -239,8 +239,7 @@ module _ (a : Matrix) (g : Analysis) (q : Ready a g) where
       unfolding run
       solved-there {s = s} {b1 = b1} e o =
           let o1 = rw (e, held) at o in
-          let w = owed-go (r .number) (r .column) then z o1 in
-          (
+          let w = owed-go (r .number) (r .column) then z o1 in (
             w .0 ∙ ap (λ (y : Factored). answered (after (y .number) (y .column) then)) r-is,
             λ h. w .1 h ∙ ap (λ (y : Factored). after (y .number) (y .column) then .x) r-is,
           )

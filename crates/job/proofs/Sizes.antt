@@ -81,8 +81,8 @@ left-sizes a us ls zero k done n e z =
 left-sizes a us ls (suc d) k done n e z =
     let p = passes (leftStep a us ls) d k done z in
     let i = left-sizes a us ls d (k + 1) (leftStep a us ls k done .columns) (omega arith)
-        (left-column a us ls k done ∙ omega (arith, e, entries-more ls k (omega arith)))
-        (sym (ap (λ (o : Outcome). o .answer .number) (p .1)) ∙ z) in
+    (left-column a us ls k done ∙ omega (arith, e, entries-more ls k (omega arith)))
+    (sym (ap (λ (o : Outcome). o .answer .number) (p .1)) ∙ z) in
     ap (λ (o : Outcome). length (flatten (o .columns))) (p .1) ∙ i
 
 -- ---- up: column k gives a value to each column before it that U's column k names, and its diagonal
@@ -107,18 +107,18 @@ unfolding along below
 one-row k ls q us s n i =
     ⊎-elim
     (λ (h : k ≤ q).
-      let e : ltb q k ≡ false = le-ltb q k h in
-      let g : goAt k ls q s ≡ s = ap (λ (b : Bool). cond b (rowAt k (getD ls q []) q s) s) e in
-      let b : cond (ltb q k) (suc (below k us)) (below k us) ≡ below k us = ap (λ (t : Bool). cond t (suc (below k us)) (below k us)) e in
-      let w = i (goAt k ls q s) (ap (λ (t : Way). length (t .columns)) g ∙ n) in
-      (w .0, omega (arith, w .1, b, ap (λ (t : Way). length (flatten (t .columns))) g)))
+    let e : ltb q k ≡ false = le-ltb q k h in
+    let g : goAt k ls q s ≡ s = ap (λ (b : Bool). cond b (rowAt k (getD ls q []) q s) s) e in
+    let b : cond (ltb q k) (suc (below k us)) (below k us) ≡ below k us = ap (λ (t : Bool). cond t (suc (below k us)) (below k us)) e in
+    let w = i (goAt k ls q s) (ap (λ (t : Way). length (t .columns)) g ∙ n) in
+    (w .0, omega (arith, w .1, b, ap (λ (t : Way). length (flatten (t .columns))) g)))
     (λ (h : q < k).
-      let e : ltb q k ≡ true = lt-ltb q k h in
-      let g : goAt k ls q s ≡ rowAt k (getD ls q []) q s = ap (λ (b : Bool). cond b (rowAt k (getD ls q []) q s) s) e in
-      let b : cond (ltb q k) (suc (below k us)) (below k us) ≡ suc (below k us) = ap (λ (t : Bool). cond t (suc (below k us)) (below k us)) e in
-      let r = row-more k (getD ls q []) q s (omega arith) in
-      let w = i (goAt k ls q s) (ap (λ (t : Way). length (t .columns)) g ∙ r .0 ∙ n) in
-      (w .0, omega (arith, w .1, b, ap (λ (t : Way). length (flatten (t .columns))) g, r .1)))
+    let e : ltb q k ≡ true = lt-ltb q k h in
+    let g : goAt k ls q s ≡ rowAt k (getD ls q []) q s = ap (λ (b : Bool). cond b (rowAt k (getD ls q []) q s) s) e in
+    let b : cond (ltb q k) (suc (below k us)) (below k us) ≡ suc (below k us) = ap (λ (t : Bool). cond t (suc (below k us)) (below k us)) e in
+    let r = row-more k (getD ls q []) q s (omega arith) in
+    let w = i (goAt k ls q s) (ap (λ (t : Way). length (t .columns)) g ∙ r .0 ∙ n) in
+    (w .0, omega (arith, w .1, b, ap (λ (t : Way). length (flatten (t .columns))) g, r .1)))
     (le-or-lt k q)
 
 rows-more : (k : ℕ) (ls : List (List ℕ)) (us : List ℕ) (s : Way) → length (s .columns) ≡ k → Grown k ls us s
@@ -157,15 +157,15 @@ below-but-one k [] o h m = absurd (List·Memᴰ·not-nil m)
 below-but-one k (q ∷ us) (one-more f o) h m =
     ⊎-elim
     (λ (e : k ≡ q).
-      let i = below-all k us (λ x n. h x (List·Memᴰ·tail n)) (λ n. f (rw e at n)) in
-      let b : cond (ltb q k) (suc (below k us)) (below k us) ≡ below k us = ap (λ (t : Bool). cond t (suc (below k us)) (below k us)) (le-ltb q k (omega arith)) in
-      omega (arith, i, b))
+    let i = below-all k us (λ x n. h x (List·Memᴰ·tail n)) (λ n. f (rw e at n)) in
+    let b : cond (ltb q k) (suc (below k us)) (below k us) ≡ below k us = ap (λ (t : Bool). cond t (suc (below k us)) (below k us)) (le-ltb q k (omega arith)) in
+    omega (arith, i, b))
     (λ n.
-      let i = below-but-one k us o (λ x r. h x (List·Memᴰ·tail r)) n in
-      let l : q ≤ k = h q (List·Memᴰ·head refl) in
-      let ne : q < k = ⊎-elim (λ (e : q ≡ k). absurd (f (rw (← e) at n))) (λ (g : q < k). g) (eq-or-lt-of-le l) in
-      let b : cond (ltb q k) (suc (below k us)) (below k us) ≡ suc (below k us) = ap (λ (t : Bool). cond t (suc (below k us)) (below k us)) (lt-ltb q k ne) in
-      omega (arith, i, b))
+    let i = below-but-one k us o (λ x r. h x (List·Memᴰ·tail r)) n in
+    let l : q ≤ k = h q (List·Memᴰ·head refl) in
+    let ne : q < k = ⊎-elim (λ (e : q ≡ k). absurd (f (rw (← e) at n))) (λ (g : q < k). g) (eq-or-lt-of-le l) in
+    let b : cond (ltb q k) (suc (below k us)) (below k us) ≡ suc (below k us) = ap (λ (t : Bool). cond t (suc (below k us)) (below k us)) (lt-ltb q k ne) in
+    omega (arith, i, b))
     (List·Memᴰ·cases-cons m)
 
 -- where U's column k is empty nothing is put into x, and the pivot is +0.0
@@ -212,10 +212,10 @@ module _ (a : Matrix) (small : a .pattern .ncols ≤ 65535) where
   none-passes : (k : ℕ) (done : List (List Float)) → k < a .pattern .ncols → lt none (upStep a us ls k done .pivot) ≡ true → getD us k [] ≡ [] → ⊥
   none-passes k done h t e =
       let q : (i : ℕ) → List·Memᴰ i (column (a .pattern .p) k (a .pattern .i)) → k < i =
-          λ i m. ⊎-elim
-          (λ (l : i ≤ k). absurd (List·Memᴰ·not-nil (rw e at (P .closed .stores i k l (rw (column-at (a .pattern) k h) m)))))
-          (λ (l : k < i). l)
-          (le-or-lt i k) in
+      λ i m. ⊎-elim
+      (λ (l : i ≤ k). absurd (List·Memᴰ·not-nil (rw e at (P .closed .stores i k l (rw (column-at (a .pattern) k h) m)))))
+      (λ (l : k < i). l)
+      (le-or-lt i k) in
       true≢false (sym t ∙ ap (lt none) (pivot-none a us ls k done h e q) ∙ not-above)
 
   -- a column that passes has its diagonal

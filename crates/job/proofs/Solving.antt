@@ -80,10 +80,9 @@ module _ (l : Matrix) (b : List Float) {r : Solved} {b1 : List Float}
       let t = transposedAnswer l y in
       let k : t .number ≡ 0 → t .column ≡ 0 = λ n. rw n in
       let zero-first : forwardAnswer l b .number ≡ 0 = sym (ap (λ (x : Solved). x .number) r-is) ∙ z in
-      owed-go (forwardAnswer l b .number) (forwardAnswer l b .column) then zero-first
-      (
+      owed-go (forwardAnswer l b .number) (forwardAnswer l b .column) then zero-first (
         e ∙ last (t .number) (t .column) (transposed l y) k,
         λ n.
-          let m : t .number ≡ 0 = sym (ap (λ (x : Solved). x .number) e) ∙ n in
-          g ∙ done (number l y) (transposed l y) y m ∙ sym (ap (λ (x : Result). x .x) (after-go (t .number) (t .column) (result 0 0 (transposed l y)) m)),
+            let m : t .number ≡ 0 = sym (ap (λ (x : Solved). x .number) e) ∙ n in
+            g ∙ done (number l y) (transposed l y) y m ∙ sym (ap (λ (x : Result). x .x) (after-go (t .number) (t .column) (result 0 0 (transposed l y)) m)),
       )

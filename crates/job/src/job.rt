@@ -29,6 +29,13 @@ pub fn job(s: &[u8], out: &mut [u8]) -> Wrote
     let h = a.head;
     let n = wide(h.n);
     let count = wide(h.entries);
-    let r = work(h.engine, n, &rows[..count], &columns[..count], &values[..count], &mut right[..n]);
+    let r = work(
+        h.engine,
+        n,
+        &rows[..count],
+        &columns[..count],
+        &values[..count],
+        &mut right[..n],
+    );
     write_answer(r.number, r.column, &right[..n], out)
 }

@@ -7,7 +7,14 @@ use cs_solve::Solved;
 use job_prepare::prepare::prepare;
 
 // Prepared, then run: the right side b becomes the solution.
-pub fn work(engine: u32, n: usize, rows: &[u32], cols: &[u32], vals: &[f64], b: &mut [f64]) -> Solved
+pub fn work(
+    engine: u32,
+    n: usize,
+    rows: &[u32],
+    cols: &[u32],
+    vals: &[f64],
+    b: &mut [f64],
+) -> Solved
     ensures { λ r. ⌜ (let s = worked engine (triplets n n (now (rows .entry)) (now (cols .entry)) (now (vals .entry))) (now (b .entry)) in
         (r ≡ answered s) × (r .number ≡ 0 → now (b .exit) ≡ s .x)) ⌝ }
 {

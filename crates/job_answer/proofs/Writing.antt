@@ -27,11 +27,11 @@ unfolding answer
 written-within w old new r e l =
     ⊎-elim
     (λ (h : length w ≤ length old).
-      let f : r .written ≡ length w = ap (λ (x : Wrote). x .written) e ∙ ap (λ (b : Bool). cond b (wrote 7 0) (wrote 0 (length w)) .written) (le-ltb (length old) (length w) h) in
-      omega (arith, f, h, l))
+    let f : r .written ≡ length w = ap (λ (x : Wrote). x .written) e ∙ ap (λ (b : Bool). cond b (wrote 7 0) (wrote 0 (length w)) .written) (le-ltb (length old) (length w) h) in
+    omega (arith, f, h, l))
     (λ (h : length old < length w).
-      let f : r .written ≡ 0 = ap (λ (x : Wrote). x .written) e ∙ ap (λ (b : Bool). cond b (wrote 7 0) (wrote 0 (length w)) .written) (lt-ltb (length old) (length w) h) in
-      omega (arith, f))
+    let f : r .written ≡ 0 = ap (λ (x : Wrote). x .written) e ∙ ap (λ (b : Bool). cond b (wrote 7 0) (wrote 0 (length w)) .written) (lt-ltb (length old) (length w) h) in
+    omega (arith, f))
     (le-or-lt (length w) (length old))
 
 room : (w old new : List ℕ) (e : ℕ) → length w ≤ length old → Put old 0 w e new → (wrote 0 e ≡ answer w old) × (new ≡ leaves w old)
@@ -40,8 +40,7 @@ room w old new e h p =
     let f = le-ltb (length old) (length w) h in
     let g : e ≡ length w = omega (arith, p .end) in
     let i : new ≡ w ++ drop (length w) old =
-        sym (take-append-drop e new) ∙ ap (λ (l : List ℕ). l ++ drop e new) (p .front) ∙ ap (λ (l : List ℕ). w ++ l) (p .behind) ∙ ap (λ (k : ℕ). w ++ drop k old) g in
-    (
+    sym (take-append-drop e new) ∙ ap (λ (l : List ℕ). l ++ drop e new) (p .front) ∙ ap (λ (l : List ℕ). w ++ l) (p .behind) ∙ ap (λ (k : ℕ). w ++ drop k old) g in (
       ap (wrote 0) g ∙ sym (ap (λ (b : Bool). cond b (wrote 7 0) (wrote 0 (length w))) f),
       i ∙ sym (ap (λ (b : Bool). cond b old (w ++ drop (length w) old)) f),
     )

@@ -87,12 +87,11 @@ module _ {s : List ℕ} {old : Arrays} {h : Head} {at : ℕ} {new : Arrays} (v :
       record { n = f .n; entries = omega (arith, lr, f .entries, f .count); columns = lc ∙ sym lr; values = lv ∙ sym lr; right = lb }
 
   answer-is : {x : ℕ} → readFile s ≡ record { number = x; job = heldBy h new } → Read s old (record { number = x; head = h }) new
-  answer-is {x = x} e =
-      (
-        sym (ap answered e ∙ ap (λ (y : Head). record { number = x; head = y }) head-is),
-        sym (ap (λ (o : Outcome). laid (o .job) old) e ∙ laid-is),
-        subst (λ (o : Outcome). Within (o .job)) (sym e) within-is,
-      )
+  answer-is {x = x} e = (
+    sym (ap answered e ∙ ap (λ (y : Head). record { number = x; head = y }) head-is),
+    sym (ap (λ (o : Outcome). laid (o .job) old) e ∙ laid-is),
+    subst (λ (o : Outcome). Within (o .job)) (sym e) within-is,
+  )
 
   pub going-sound : (r : Record) {x : ℕ} → x ≡ fault (heldBy h (arrays (new .rows) (new .columns) [] [])) r → x ≡ 0 → fault (heldBy h new) r ≡ 0
   going-sound r e z = sym (seen h new r) ∙ sym e ∙ z

@@ -125,7 +125,7 @@ module _ (h : Head) (engine : ℕ) where
   pub go-late : (h .stage ≡ 1 → ⊥) → Judged h (GO engine) 12
   go-late a =
       record {
-        is = λ l p. sym (go h l p engine ∙ simp (or-holds (not (eqb engine 1 || eqb engine 2)) (not (eqb (h .stage) 1 && eqb (h .entries) (h .count))) (simp (ne-eqb (h .stage) 1 a))))
+        is = λ l p. sym (go h l p engine ∙ simp (or-holds (not (eqb engine 1 || eqb engine 2)) (not (eqb (h .stage) 1 && eqb (h .entries) (h .count))) (simp (ne-eqb (h .stage) 1 a))));
       }
 
   module _ (a : h .stage ≡ 1) where
@@ -137,7 +137,7 @@ module _ (h : Head) (engine : ℕ) where
               sym
               (go h l p engine
               ∙ simp
-              (or-holds (not (eqb engine 1 || eqb engine 2)) (not (eqb (h .stage) 1 && eqb (h .entries) (h .count))) (simp (eq-eqb (h .stage) 1 a, ne-eqb (h .entries) (h .count) b))))
+              (or-holds (not (eqb engine 1 || eqb engine 2)) (not (eqb (h .stage) 1 && eqb (h .entries) (h .count))) (simp (eq-eqb (h .stage) 1 a, ne-eqb (h .entries) (h .count) b))));
         }
 
     module _ (b : h .entries ≡ h .count) where
@@ -149,7 +149,7 @@ module _ (h : Head) (engine : ℕ) where
           ⊎-elim
           (λ (f : 1 ≡ engine). record { is = λ l p. sym (go h l p engine ∙ simp (eq-eqb (h .stage) 1 a, eq-eqb (h .entries) (h .count) b, eq-eqb engine 1 (sym f))) })
           (λ (f : 1 < engine).
-            record {
-              is = λ l p. sym (go h l p engine ∙ simp (eq-eqb (h .stage) 1 a, eq-eqb (h .entries) (h .count) b, ne-eqb engine 1 (λ g. omega arith), eq-eqb engine 2 (omega arith)))
-            })
+          record {
+            is = λ l p. sym (go h l p engine ∙ simp (eq-eqb (h .stage) 1 a, eq-eqb (h .entries) (h .count) b, ne-eqb engine 1 (λ g. omega arith), eq-eqb engine 2 (omega arith)));
+          })
           (eq-or-lt-of-le c)

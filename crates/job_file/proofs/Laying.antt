@@ -45,11 +45,14 @@ module _ (h : Head) (l : Arrays) (v : Fits h l) (r : Found) (z : fault (heldBy h
       record {
         is =
             ap (λ (t : List Float).
-              record {
-                place = place 1 (h .next); n = n; count = count;
-                entries = entries (take (h .entries) (l .rows)) (take (h .entries) (l .columns)) (take (h .entries) (l .values));
-                right = t; engine = h .engine
-              })
+            record {
+              place = place 1 (h .next);
+              n = n;
+              count = count;
+              entries = entries (take (h .entries) (l .rows)) (take (h .entries) (l .columns)) (take (h .entries) (l .values));
+              right = t;
+              engine = h .engine;
+            })
             (ap (take n) g2 ∙ take-at (replicate n none) (drop n (l .right)) n (length-replicate n none))
             ∙ sym (ap taking e);
         fits =
@@ -125,11 +128,14 @@ module _ (h : Head) (l : Arrays) (v : Fits h l) (r : Found) (z : fault (heldBy h
       record {
         is =
             ap (λ (t : List Float).
-              record {
-                place = place (h .stage) (row + 1); n = h .n; count = h .count;
-                entries = entries (take (h .entries) (l .rows)) (take (h .entries) (l .columns)) (take (h .entries) (l .values));
-                right = t; engine = h .engine
-              })
+            record {
+              place = place (h .stage) (row + 1);
+              n = h .n;
+              count = h .count;
+              entries = entries (take (h .entries) (l .rows)) (take (h .entries) (l .columns)) (take (h .entries) (l .values));
+              right = t;
+              engine = h .engine;
+            })
             (take-set-lt (h .n) (l .right) row b (m .1))
             ∙ sym (ap taking e);
         fits =

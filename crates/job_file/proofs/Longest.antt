@@ -41,9 +41,17 @@ module _ (m : ℕ) (l : List ℕ) (h : 18 ≤ m) (g : m < length l) where
   first-take : first (take m l) ≡ first l
   unfolding first
   first-take =
-      rw
-      (begins-take 0x5A53 10 (omega arith), begins-take 0x4E45 18 (omega arith), begins-take 0x4852 14 (omega arith), begins-take 0x4F47 3 (omega arith),
-       field 2 4 m l (omega arith), field 6 4 m l (omega arith), field 10 8 m l (omega arith), field 6 8 m l (omega arith), field 2 1 m l (omega arith))
+      rw (
+        begins-take 0x5A53 10 (omega arith),
+        begins-take 0x4E45 18 (omega arith),
+        begins-take 0x4852 14 (omega arith),
+        begins-take 0x4F47 3 (omega arith),
+        field 2 4 m l (omega arith),
+        field 6 4 m l (omega arith),
+        field 10 8 m l (omega arith),
+        field 6 8 m l (omega arith),
+        field 2 1 m l (omega arith),
+      )
 
 -- ---- m bytes are enough for what a sound file may still have where j stands, and for any record behind it
 pub record Ahead (j : Job) (m : ℕ) : Type 0 where
@@ -58,40 +66,48 @@ ahead-on : (j : Job) (r : Record) (m : ℕ) → fault j r ≡ 0 → Ahead j m �
 unfolding taken withEntry size
 ahead-on j (SZ n count) m z v =
     let a = sz-means j n count z in
-    let f = v .fresh (a .0) in
-    (omega (arith, f .0), record {
-      any = omega (arith, f .0);
-      fresh = λ e. absurd (omega arith);
-      going = λ e. (omega (arith, f .0, a .1, a .2), omega (arith, f .1));
-    })
+    let f = v .fresh (a .0) in (
+      omega (arith, f .0),
+      record {
+        any = omega (arith, f .0);
+        fresh = λ e. absurd (omega arith);
+        going = λ e. (omega (arith, f .0, a .1, a .2), omega (arith, f .1));
+      },
+    )
 ahead-on j (EN row column bits) m z v =
     let a = en-means j row column bits z in
     let g = v .going (a .0) in
     let ne = a .1 in
     let lt : length (j .entries .rows) < j .count = omega (arith, g .1, ne) in
     let long = length-append (j .entries .rows) (row ∷ []) in
-    let one : length (row ∷ []) ≡ 1 = refl in
-    (omega (arith, g .0), record {
-      any = omega (arith, g .0);
-      fresh = λ e. absurd (omega (arith, e, a .0));
-      going = λ e. (omega (arith, g .0, long, one), omega (arith, long, one));
-    })
+    let one : length (row ∷ []) ≡ 1 = refl in (
+      omega (arith, g .0),
+      record {
+        any = omega (arith, g .0);
+        fresh = λ e. absurd (omega (arith, e, a .0));
+        going = λ e. (omega (arith, g .0, long, one), omega (arith, long, one));
+      },
+    )
 ahead-on j (RH row bits) m z v =
     let a = rh-means j row bits z in
-    let g = v .going (a .0) in
-    (omega (arith, g .0, a .1, a .2), record {
-      any = omega (arith, g .0, a .1, a .2);
-      fresh = λ e. absurd (omega (arith, e, a .0));
-      going = λ e. (omega (arith, g .0, a .1, a .2), g .1);
-    })
+    let g = v .going (a .0) in (
+      omega (arith, g .0, a .1, a .2),
+      record {
+        any = omega (arith, g .0, a .1, a .2);
+        fresh = λ e. absurd (omega (arith, e, a .0));
+        going = λ e. (omega (arith, g .0, a .1, a .2), g .1);
+      },
+    )
 ahead-on j (GO engine) m z v =
     let a = go-means j engine z in
-    let g = v .going (a .0) in
-    (omega (arith, g .0), record {
-      any = omega (arith, g .0);
-      fresh = λ e. absurd (omega arith);
-      going = λ e. absurd (omega arith);
-    })
+    let g = v .going (a .0) in (
+      omega (arith, g .0),
+      record {
+        any = omega (arith, g .0);
+        fresh = λ e. absurd (omega arith);
+        going = λ e. absurd (omega arith);
+      },
+    )
 ahead-on j Wrong m z v = let t = wrong-means j in absurd (omega (arith, t, z))
 
 -- ---- what is read of the front is what is read of the whole
@@ -104,7 +120,7 @@ module _ (l : List ℕ) (j : Job) (m : ℕ) (h : 18 ≤ m) (g : m < length l) wh
 
   step :
       (fault j (first l) ≡ 0
-        → reads (records (take (m - size (first l)) (drop (size (first l)) l))) (taken j (first l)) ≡ reads (records (drop (size (first l)) l)) (taken j (first l)))
+      → reads (records (take (m - size (first l)) (drop (size (first l)) l))) (taken j (first l)) ≡ reads (records (drop (size (first l)) l)) (taken j (first l)))
       → reads (records (take m l)) j ≡ reads (records l) j
   step i =
       let whole = ap (λ (rs : List Record). reads rs j) (one-by-one l (omega arith)) in
@@ -120,11 +136,11 @@ same (suc f) l j m b v =
     ⊎-elim
     (λ (h : length l ≤ m). ap (λ (t : List ℕ). reads (records t) j) (take-all m l h))
     (λ (g : m < length l).
-      step l j m (v .any) g
-      (λ z.
-        same f (drop (size (first l)) l) (taken j (first l)) (m - size (first l))
-        (omega (arith, length-drop (size (first l)) l, some (first l)))
-        (ahead-on j (first l) m z v .1)))
+    step l j m (v .any) g
+    (λ z.
+    same f (drop (size (first l)) l) (taken j (first l)) (m - size (first l))
+    (omega (arith, length-drop (size (first l)) l, some (first l)))
+    (ahead-on j (first l) m z v .1)))
     (le-or-lt (length l) m)
 
 -- the number and what was read are those of the first m bytes, where m is 40,479 or more

@@ -31,8 +31,7 @@ module _ (j : Job) where
       let p = passed-over (not (eqb (j .place .stage) 1 && not full)) 11 _ z in
       let a = and-true (eqb (j .place .stage) 1) (not full) (not-holds _ (p .0)) in
       let q = passed-over (leb (j .n) row || leb (j .n) column) 3 _ (p .1) in
-      let b = or-false (leb (j .n) row) (leb (j .n) column) (q .0) in
-      (
+      let b = or-false (leb (j .n) row) (leb (j .n) column) (q .0) in (
         eqb-true (j .place .stage) 1 (a .0),
         eqb-false (length (j .entries .rows)) (j .count) (not-true full (a .1)),
         leb-false (j .n) row (b .0),

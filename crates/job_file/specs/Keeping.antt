@@ -11,9 +11,12 @@ use Rattle.job_file.specs.Arrays.{Arrays}
 abbrev pub heldBy : Head → Arrays → Job
 heldBy h l =
     record {
-      place = place (h .stage) (h .next); n = h .n; count = h .count;
+      place = place (h .stage) (h .next);
+      n = h .n;
+      count = h .count;
       entries = entries (take (h .entries) (l .rows)) (take (h .entries) (l .columns)) (take (h .entries) (l .values));
-      right = take (h .n) (l .right); engine = h .engine
+      right = take (h .n) (l .right);
+      engine = h .engine;
     }
 
 -- room for the maxima

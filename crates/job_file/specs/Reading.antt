@@ -30,8 +30,12 @@ taken j (EN row column bits) =
     record { place = j .place; n = j .n; count = j .count; entries = withEntry (j .entries) row column bits; right = j .right; engine = j .engine }
 taken j (RH row bits) =
     record {
-      place = place (j .place .stage) (row + 1); n = j .n; count = j .count; entries = j .entries;
-      right = set (j .right) row (ofBits binary64 bits); engine = j .engine
+      place = place (j .place .stage) (row + 1);
+      n = j .n;
+      count = j .count;
+      entries = j .entries;
+      right = set (j .right) row (ofBits binary64 bits);
+      engine = j .engine;
     }
 taken j (GO engine) =
     record { place = place 2 (j .place .next); n = j .n; count = j .count; entries = j .entries; right = j .right; engine = engine }

@@ -4,15 +4,18 @@ ghost use Prim.Native.Nat.{_≤_};
 ghost use lib.ListN.{length, drop};
 ghost use Rattle.job_file.specs.Records.{first, size};
 ghost use Rattle.job_file.specs.Told.{told};
+use crate::little::u8_at;
 use crate::little::u16_at;
 use crate::little::u32_at;
 use crate::little::u64_at;
-use crate::little::u8_at;
 
 // The two letters of each mark, the first one low.
 const SZ: u32 = 0x5A53;
+
 const EN: u32 = 0x4E45;
+
 const RH: u32 = 0x4852;
+
 const GO: u32 = 0x4F47;
 
 pub enum Found {
@@ -37,21 +40,33 @@ pub(crate) fn record_at(s: &[u8], at: usize) -> Found
             if left < 10 {
                 return Found::Wrong;
             }
-            Found::Size { n: u32_at(s, at + 2), count: u32_at(s, at + 6) }
+            Found::Size {
+                n: u32_at(s, at + 2),
+                count: u32_at(s, at + 6),
+            }
         }
         EN => {
             if left < 18 {
                 return Found::Wrong;
             }
-            Found::Entry { row: u32_at(s, at + 2), column: u32_at(s, at + 6), bits: u64_at(s, at + 10) }
+            Found::Entry {
+                row: u32_at(s, at + 2),
+                column: u32_at(s, at + 6),
+                bits: u64_at(s, at + 10),
+            }
         }
         RH => {
             if left < 14 {
                 return Found::Wrong;
             }
-            Found::Right { row: u32_at(s, at + 2), bits: u64_at(s, at + 6) }
+            Found::Right {
+                row: u32_at(s, at + 2),
+                bits: u64_at(s, at + 6),
+            }
         }
-        GO => Found::Go { engine: u8_at(s, at + 2) },
+        GO => Found::Go {
+            engine: u8_at(s, at + 2),
+        },
         _ => Found::Wrong,
     }
 }
@@ -62,7 +77,11 @@ pub(crate) fn size_of(r: Found) -> usize
 {
     match r {
         Found::Size { n: _, count: _ } => 10,
-        Found::Entry { row: _, column: _, bits: _ } => 18,
+        Found::Entry {
+            row: _,
+            column: _,
+            bits: _,
+        } => 18,
         Found::Right { row: _, bits: _ } => 14,
         Found::Go { engine: _ } => 3,
         Found::Wrong => 1,

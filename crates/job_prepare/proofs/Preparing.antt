@@ -47,13 +47,12 @@ pub assembled-there : (t : Triplets) (p i : List ℕ) (v : List Float) {new : St
     × (r ≡ 0 → Assembled t)
     → (r ≡ assembly t) × (new ≡ outputs r (written (assembled t) (stored p i v)) (stored p i v)) × (r ≡ 0 → Assembled t)
 unfolding assembly left
-assembled-there t p i v ep ei ev e =
-    (
-      e .0
+assembled-there t p i v ep ei ev e = (
+  e .0
       ∙ assembly-same (stored p i v) (matrixRoom .out) (ep ∙ sym (length-replicate {A = ℕ} 257 0)) (ei ∙ sym (length-replicate {A = ℕ} 2048 0)) (ev ∙ sym (length-replicate 2048 none)) t scratchRoom,
-      ap (λ (l : Lent Stored). l .out) (e .1),
-      e .2,
-    )
+  ap (λ (l : Lent Stored). l .out) (e .1),
+  e .2,
+)
 
 -- the pattern that is handed on
 handed : (n : ℕ) (p i : List ℕ) (k m : ℕ) → k ≡ n + 1 → m ≡ getD p n 0 → pattern n n (take k p) (take m i) ≡ heldPattern n p i
@@ -68,12 +67,11 @@ pub analysed-there : (n : ℕ) (p i : List ℕ) (m : ℕ) (f : Analysis) {new : 
     → (r ≡ analysisOf (heldPattern n p i)) × (new ≡ outputs r (writtenAnalysis (analysed (columns (heldPattern n p i))) f) f)
 unfolding analysisOf left
 analysed-there n p i m f {new = new} {r = r} em et eu ei el ej e g =
-    let q = handed n p i (n + 1) m refl em in
-    (
+    let q = handed n p i (n + 1) m refl em in (
       e
-      ∙ ap (λ (x : Pattern). analysisNumber x (lent f scratchRoom)) q
-      ∙ analysis-same f (analysisRoom .out) (et ∙ sym (length-replicate {A = ℕ} 256 0)) (eu ∙ sym (length-replicate {A = ℕ} 257 0)) (ei ∙ sym (length-replicate {A = ℕ} 2048 0)) (el ∙ sym (length-replicate {A = ℕ} 257 0))
-      (ej ∙ sym (length-replicate {A = ℕ} 2048 0)) (heldPattern n p i) scratchRoom,
+          ∙ ap (λ (x : Pattern). analysisNumber x (lent f scratchRoom)) q
+          ∙ analysis-same f (analysisRoom .out) (et ∙ sym (length-replicate {A = ℕ} 256 0)) (eu ∙ sym (length-replicate {A = ℕ} 257 0)) (ei ∙ sym (length-replicate {A = ℕ} 2048 0)) (el ∙ sym (length-replicate {A = ℕ} 257 0))
+          (ej ∙ sym (length-replicate {A = ℕ} 2048 0)) (heldPattern n p i) scratchRoom,
       ap (λ (l : Lent Analysis). l .out) g ∙ ap (λ (x : Pattern). outputs r (writtenAnalysis (analysed (columns x)) f) f) q,
     )
 
@@ -175,16 +173,15 @@ module _ (n : ℕ) (rows cols : List ℕ) (vals : List Float) (p i : List ℕ) (
       let h = written-pattern n rows cols vals p i v p1 i1 v1 is-written (c .2 z) in
       let eq : q ≡ analysisOf (m .pattern) = d .0 ∙ ap analysisOf h in
       let eg : g ≡ outputs (analysisOf (m .pattern)) (writtenAnalysis (analysed (columns (m .pattern))) f) f =
-          d .1 ∙ ap (λ (x : Pattern). outputs q (writtenAnalysis (analysed (columns x)) f) f) h ∙ ap (λ (y : ℕ). outputs y (writtenAnalysis (analysed (columns (m .pattern))) f) f) eq in
+      d .1 ∙ ap (λ (x : Pattern). outputs q (writtenAnalysis (analysed (columns x)) f) f) h ∙ ap (λ (y : ℕ). outputs y (writtenAnalysis (analysed (columns (m .pattern))) f) f) eq in
       let ew : stored p1 i1 v1 ≡ outputs (assembly t) (written m (stored p i v)) (stored p i v) = c .1 ∙ ap (λ (y : ℕ). outputs y (written m (stored p i v)) (stored p i v)) (c .0) in
-      let b : eqb (assembly t) 0 ≡ true = eq-eqb (assembly t) 0 (sym (c .0) ∙ z) in
-      (
+      let b : eqb (assembly t) 0 ≡ true = eq-eqb (assembly t) 0 (sym (c .0) ∙ z) in (
         eq ∙ sym (ap (λ (x : Bool). cond x (analysisOf (m .pattern)) (assembly t)) b),
         (λ k. record { matrix = ew k; analysis = eg k })
-        ∙ sym (ap (λ (x : Bool). record {
-          matrix = outputs (assembly t) (written m (stored p i v)) (stored p i v);
-          analysis = cond x (outputs (analysisOf (m .pattern)) (writtenAnalysis (analysed (columns (m .pattern))) f) f) f
-        }) b),
+            ∙ sym (ap (λ (x : Bool). record {
+              matrix = outputs (assembly t) (written m (stored p i v)) (stored p i v);
+              analysis = cond x (outputs (analysisOf (m .pattern)) (writtenAnalysis (analysed (columns (m .pattern))) f) f) f;
+            }) b),
         λ _. c .2 z,
       )
 
@@ -195,14 +192,13 @@ pub prepared-refused : (t : Triplets) (old new : Stored) (f : Analysis) (r : ℕ
 unfolding number leaves
 prepared-refused t old new f r n c =
     let b : eqb (assembly t) 0 ≡ false = ne-eqb (assembly t) 0 (λ h. n (c .0 ∙ h)) in
-    let ew : new ≡ outputs (assembly t) (written (assembled t) old) old = c .1 ∙ ap (λ (y : ℕ). outputs y (written (assembled t) old) old) (c .0) in
-    (
+    let ew : new ≡ outputs (assembly t) (written (assembled t) old) old = c .1 ∙ ap (λ (y : ℕ). outputs y (written (assembled t) old) old) (c .0) in (
       c .0 ∙ sym (ap (λ (x : Bool). cond x (analysisOf (assembled t .pattern)) (assembly t)) b),
       (λ k. record { matrix = ew k; analysis = f })
-      ∙ sym (ap (λ (x : Bool). record {
-        matrix = outputs (assembly t) (written (assembled t) old) old;
-        analysis = cond x (outputs (analysisOf (assembled t .pattern)) (writtenAnalysis (patternOf t) f) f) f
-      }) b),
+          ∙ sym (ap (λ (x : Bool). record {
+            matrix = outputs (assembly t) (written (assembled t) old) old;
+            analysis = cond x (outputs (analysisOf (assembled t .pattern)) (writtenAnalysis (patternOf t) f) f) f;
+          }) b),
       c .2,
     )
 
@@ -213,9 +209,9 @@ module _ (t : Triplets) (old new : Outputs) (r : ℕ) (c : (r ≡ number t) × (
   both =
       ⊎-elim
       (λ (e : assembly t ≡ 0).
-        (e, sym (ap (λ (x : Bool). cond x (analysisOf (assembled t .pattern)) (assembly t)) (eq-eqb (assembly t) 0 e)) ∙ sym (c .0) ∙ z))
+      (e, sym (ap (λ (x : Bool). cond x (analysisOf (assembled t .pattern)) (assembly t)) (eq-eqb (assembly t) 0 e)) ∙ sym (c .0) ∙ z))
       (λ (n : assembly t ≡ 0 → ⊥).
-        absurd (n (sym (ap (λ (x : Bool). cond x (analysisOf (assembled t .pattern)) (assembly t)) (ne-eqb (assembly t) 0 n)) ∙ sym (c .0) ∙ z)))
+      absurd (n (sym (ap (λ (x : Bool). cond x (analysisOf (assembled t .pattern)) (assembly t)) (ne-eqb (assembly t) 0 n)) ∙ sym (c .0) ∙ z)))
       (eq-or-ne (assembly t) 0)
 
   pub done-matrix : new .matrix ≡ written (assembled t) (old .matrix)

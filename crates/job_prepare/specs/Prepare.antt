@@ -52,7 +52,7 @@ leaves t old =
       analysis =
           cond (eqb (assembly t) 0)
           (outputs (analysisOf (assembled t .pattern)) (writtenAnalysis (patternOf t) (old .analysis)) (old .analysis))
-          (old .analysis)
+          (old .analysis);
     }
 
 -- the matrix that the front of the slices holds, its entry count being the last pointer

@@ -101,10 +101,14 @@ pub fn prepare(
     li: &mut [u32; 2048],
 ) -> u32
     ensures { λ r. ⌜ (let t = triplets n n (now (rows .entry)) (now (cols .entry)) (now (vals .entry)) in
-        let old : Outputs = record { matrix = stored (now (p .entry)) (now (i .entry)) (now (v .entry));
-            analysis = analysis (now (tree .entry)) (now (up .entry)) (now (ui .entry)) (now (lp .entry)) (now (li .entry)) } in
-        let new : Outputs = record { matrix = stored (now (p .exit)) (now (i .exit)) (now (v .exit));
-            analysis = analysis (now (tree .exit)) (now (up .exit)) (now (ui .exit)) (now (lp .exit)) (now (li .exit)) } in
+        let old : Outputs = record {
+          matrix = stored (now (p .entry)) (now (i .entry)) (now (v .entry));
+          analysis = analysis (now (tree .entry)) (now (up .entry)) (now (ui .entry)) (now (lp .entry)) (now (li .entry));
+        } in
+        let new : Outputs = record {
+          matrix = stored (now (p .exit)) (now (i .exit)) (now (v .exit));
+          analysis = analysis (now (tree .exit)) (now (up .exit)) (now (ui .exit)) (now (lp .exit)) (now (li .exit));
+        } in
         (r ≡ number t) × (new ≡ leaves t old) × (r ≡ 0 → Assembled t)) ⌝ }
 {
     let refused = assemble(n, rows, cols, vals, p, i, v);
