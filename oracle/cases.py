@@ -108,7 +108,10 @@ def factoring(r, c, n, lent=True):
 
 
 def size(r):
-    return r.choice([0, 1, 2, 3, 4, 5, 6, 8, 10, 14]) if r.random() < 0.85 else r.randint(15, 40)
+    chance = r.random()
+    if chance < 0.85:
+        return r.choice([0, 1, 2, 3, 4, 5, 6, 8, 10, 14])
+    return r.randint(15, 40) if chance < 0.98 else r.randint(41, 60)
 
 
 def valid(r, op, kind):
@@ -310,7 +313,30 @@ def paper():
         out += [exactly("sparse", 2, 2, two, more=dict(s2=[1], b=[v])), exactly("sum", 2, 2, two, 2, 2, two), exactly("product", 2, 2, two, 2, 2, two)]
         out += [exactly("scale", 1, 1, one(v), more=dict(x=[-2.0])), exactly("transpose", 1, 1, one(v)), exactly("triplet", 1, 1, ([0], [0], [v]))]
         out += [exactly("axpy", 0, 2, ([], [1], [v]), more=dict(b=[v, v], x=[2.0, beta])) for beta in (0.0, -0.0, 1.0, math.nan)]
-    return out + bases(0) + bases(1)
+    return out + between() + bases(0) + bases(1)
+
+
+def between():
+    """Two numbers that apply at once: the lower is given. 7 before 8, 8 before 9, 9 before 11, 7 before 10, 7 before 9."""
+    stray = ([0, 2, 3], [0, 1, 1], [-1.0, 1.0, 2.0])
+    out = [exactly("left", 2, 2, stray)]
+    for room in (0, 1):
+        k = exactly("left", 2, 2, stray)
+        k["slots"]["s2"][0] = 0
+        k["slots"]["o"] = k["slots"]["o"][:2 - room]
+        out.append(k)
+    k = exactly("up", 1, 1, one(-1.0))
+    k["slots"]["s4"] = [1]
+    out.append(k)
+    k = exactly("sparse", 1, 1, one(0.0), more=dict(s2=[0], b=[1.0]))
+    k["slots"]["s5"], k["slots"]["o"] = [], []
+    out.append(k)
+    k = exactly("triplet", 1, 1, ([0, 0], [0, 0], [1.0, 2.0]))
+    k["slots"]["s4"], k["slots"]["s5"], k["slots"]["o"] = [7, 7], [7], [7.0]
+    out.append(k)
+    k = exactly("triplet", 1, 1, ([0, 0], [0, 0], [1.0, 2.0]))
+    k["slots"]["s4"], k["slots"]["s5"], k["slots"]["o"] = [7, 7], [7, 7], [7.0, 7.0]
+    return out + [k]
 
 
 def bases(n):
