@@ -121,6 +121,14 @@ def valid(r, op, kind):
     if op == "root":
         c["x"] = [value(r, kind) if r.random() < 0.3 else abs(value(r, kind))]
         return case(op, kind, [0, 0, 0, 0], c)
+    if op == "sums":
+        k = r.randint(0, 12)
+        c["s0"], c["s1"] = [r.choice([0, 1, 5, r.getrandbits(12), 4294967295]) for _ in range(k)], words(r, k)
+        return case(op, kind, [0, 0, 0, 0], c)
+    if op == "walk":
+        k = r.randint(0, 6)
+        c["s1"], c["v"], c["s0"] = sorted(r.sample(range(20), k)), [value(r, kind) for _ in range(k)], words(r, r.choice([2, 2, 3]))
+        return case(op, kind, [0, r.randint(0, k + 2), 0, 0], c)
     if op in ("check", "check_pattern", "check_vector", "transpose", "scale", "triplet", "product", "sum", "axpy"):
         m = size(r)
     if op in ("check_vector", "axpy"):

@@ -6,8 +6,8 @@ import struct
 MOST, ENTRIES, ROOT = 65535, 4194304, 4294967295
 WORDS = ["s0", "s1", "s2", "s3", "s4", "s5", "s6", "w1", "w2", "w3"]
 VALUES = ["v", "b", "o", "x"]
-OPS = dict(root=0, check=1, check_pattern=2, check_vector=3, scale=4, axpy=5, forward=6, transposed=7, transpose=8, triplet=9,
-           sparse=10, product=11, sum=12, analyse=16, compare=17, left=18, up=19)
+OPS = dict(root=0, check=1, check_pattern=2, check_vector=3, scale=4, axpy=5, forward=6, transposed=7, sums=8, walk=9,
+           transpose=10, triplet=11, sparse=12, product=13, sum=14, analyse=16, compare=17, left=18, up=19)
 
 
 def bits(x):
@@ -336,6 +336,22 @@ def scale(c, m, n):
     c["v"][:] = [e * s for e in c["v"]]
 
 
+def sums(a, b):
+    total = 0
+    for k in range(min(len(a), len(b))):
+        a[k], b[k], total = total, total, (total + a[k]) % 2**32
+    return total
+
+
+def walk(curr, i, v, out):
+    """One step: number, row and value of the entry, or the end; then the position and how many are left, into out."""
+    given = list(zip(i, v)) if len(i) == len(v) else []
+    entry = given[curr] if curr < len(given) else (ROOT, 0.0)
+    after = curr + 1 if curr < len(given) else curr
+    out[:2] = [after, max(0, len(given) - after)][:len(out)]
+    return 0 if len(i) == len(v) else 2, entry[0], entry[1]
+
+
 def run(case):
     """The answer (number, column, pivot); the case's slices are left as the call leaves them."""
     c, (m, n, d, e) = case["slots"], case["numbers"]
@@ -357,6 +373,10 @@ def run(case):
             write(c, s2=tree, s3=pointers(us), s4=flat(us), s5=pointers(ls), s6=flat(ls))
         elif name == "compare":
             judge_factor(c, m, n, d, False)
+        elif name == "sums":
+            return 0, sums(c["s0"], c["s1"]), 0.0
+        elif name == "walk":
+            return walk(n, c["s1"], c["v"], c["s0"])
         elif name in ("left", "up"):
             factor(c, m, n, name)
         elif name in ("forward", "transposed"):

@@ -6,7 +6,7 @@ import subprocess
 from model import ROOT, bits
 
 NAMES = dict(root="sqrt", scale="scale", axpy="axpy", forward="fwd", transposed="tr", transpose="transpose", triplet="triplet", sparse="sfwd",
-             product="mul", sum="add", analyse="analyse", left="left", up="up")
+             product="mul", sum="add", analyse="analyse", left="left", up="up", sums="cumsum")
 
 
 def hexes(l):
@@ -27,6 +27,8 @@ def line(k):
     a = lambda: mat(m, n, c["s0"], c["s1"], c["v"])
     if op == "root":
         return hexes(c["x"][:1])
+    if op == "sums":
+        return [len(c["s0"])] + c["s0"]
     if op == "axpy":
         return dense(c["b"]) + hexes(c["x"][:1]) + [n, len(c["s1"])] + c["s1"] + hexes(c["v"]) + hexes(c["x"][1:2])
     if op == "triplet":
@@ -59,6 +61,8 @@ def wanted(k, after, answer):
         return {"col": [str(column)]}, {"pivot": hexes([pivot])}
     if op == "root":
         return {}, {"v": hexes([pivot])}
+    if op == "sums":
+        return {"sum": [str(column)], "a": [str(x) for x in c["s0"]], "b": [str(x) for x in c["s1"]]}, {}
     if op == "analyse":
         t = c["s3"][n]
         parts = dict(tree=c["s2"][:n], up=c["s3"][:n + 1], ui=c["s4"][:t], lp=c["s5"][:n + 1], li=c["s6"][:t])
@@ -97,6 +101,8 @@ def fit(k, answer):
         return False
     if k["op"] == "triplet" and any(math.copysign(1, v) < 0 and v == 0 for v in k["slots"]["v"]):
         return False  # docs/DIFFERENCES.md: the Rust's assembly turns a -0.0 into +0.0
+    if k["op"] == "sums" and (len(k["slots"]["s0"]) != len(k["slots"]["s1"]) or sum(k["slots"]["s0"]) >= 2**32):
+        return False  # docs/DIFFERENCES.md: running sums of unlike lengths, or past the index type
     if k["op"] in ("root", "scale", "axpy") and len(k["slots"]["x"]) < (2 if k["op"] == "axpy" else 1):
         return False
     return True

@@ -1,5 +1,6 @@
 // The calls by their numbers, each on the slices of a case.
 use crate::slots::capped;
+use crate::slots::put_word;
 use crate::slots::read_head;
 use crate::slots::read_values;
 use crate::slots::read_words;
@@ -24,7 +25,10 @@ use cs_solve_cs::solve_cs::solve_lower_triangular_cs;
 use cs_sum::sum::sum;
 use cs_transpose::transpose::transpose;
 use cs_up::up::decompose_up_looking;
+use cs_walk::column_entries::Entry;
+use cs_walk::column_entries::next_entry;
 use lists::numbers::wide;
+use lists::sums::cumsum;
 
 // What any call answers: its number, and the column and the pivot of those that have one.
 pub struct Answer {
@@ -79,13 +83,42 @@ fn second(l: &[f64]) -> f64 {
     0.0
 }
 
-// Calls without scratch.
+// One step of a walk from a position; where it stands then and how many are left are put into out. The end has no row: 4,294,967,295.
+fn walk(curr: usize, i: &[u32], v: &[f64], out: &mut [u32]) -> Answer {
+    let step = next_entry(curr, i, v);
+    put_word((step.curr % 4294967296) as u32, 0, out);
+    put_word((step.left % 4294967296) as u32, 1, out);
+    let number = step.number;
+    let entry = step.entry;
+    match entry {
+        Entry::Pair(row, value) => Answer {
+            number: number,
+            column: row,
+            pivot: value,
+        },
+        Entry::End => Answer {
+            number: number,
+            column: 4294967295,
+            pivot: 0.0,
+        },
+    }
+}
+
+fn summed(sum: u32) -> Answer {
+    Answer {
+        number: 0,
+        column: sum,
+        pivot: 0.0,
+    }
+}
+
+// Calls without scratch; the walker puts where it stands into s0.
 fn plain(
     op: u32,
     m: usize,
     n: usize,
-    s0: &[u32],
-    s1: &[u32],
+    s0: &mut [u32],
+    s1: &mut [u32],
     v: &mut [f64],
     b: &mut [f64],
     x: &[f64],
@@ -98,7 +131,9 @@ fn plain(
         4 => only(scale(m, n, s0, s1, v, first(x))),
         5 => only(axpy_cs(n, first(x), s1, v, second(x), b)),
         6 => solved(solve_lower_triangular(m, n, s0, s1, v, b)),
-        _ => solved(tr_solve_lower_triangular(m, n, s0, s1, v, b)),
+        7 => solved(tr_solve_lower_triangular(m, n, s0, s1, v, b)),
+        8 => summed(cumsum(s0, s1)),
+        _ => walk(n, s1, v, s0),
     }
 }
 
@@ -124,10 +159,10 @@ fn built(
     x: &mut [f64],
 ) -> Answer {
     match op {
-        8 => only(transpose(m, n, s0, s1, v, s4, s5, o, w1, w2, w3, x)),
-        9 => only(from_triplet(m, n, s0, s1, v, s4, s5, o, w1, w2, w3, x)),
-        11 => only(product(m, n, s0, s1, v, d, e, s2, s3, b, s4, s5, o, w1, w2, w3, x)),
-        12 => only(sum(m, n, s0, s1, v, d, e, s2, s3, b, s4, s5, o)),
+        10 => only(transpose(m, n, s0, s1, v, s4, s5, o, w1, w2, w3, x)),
+        11 => only(from_triplet(m, n, s0, s1, v, s4, s5, o, w1, w2, w3, x)),
+        13 => only(product(m, n, s0, s1, v, d, e, s2, s3, b, s4, s5, o, w1, w2, w3, x)),
+        14 => only(sum(m, n, s0, s1, v, d, e, s2, s3, b, s4, s5, o)),
         _ => solved(solve_lower_triangular_cs(m, n, s0, s1, v, s2, b, s5, o, w1, w2, w3, x)),
     }
 }
@@ -197,7 +232,7 @@ fn call(
     let op = h[0];
     let m = wide(h[1]);
     let n = wide(h[2]);
-    if op < 8 {
+    if op < 10 {
         return plain(op, m, n, s0, s1, v, b, x);
     }
     if op < 16 {

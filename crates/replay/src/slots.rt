@@ -80,7 +80,7 @@ fn put(x: u64, at: usize, raw: &mut [u8]) {
     put_byte(x / 16777216, at + 3, raw);
 }
 
-fn put_word(x: u32, at: usize, out: &mut [u32]) {
+pub fn put_word(x: u32, at: usize, out: &mut [u32]) {
     if at < out.len() {
         out[at] = x;
     }
