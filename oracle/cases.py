@@ -235,6 +235,16 @@ def damaged(r, op):
     return k
 
 
+def of_pattern(op, n, cols, r):
+    c = empty()
+    c["s0"], c["s1"] = pointers(cols), flat(cols)
+    c["v"] = [] if op == "analyse" else [4.0 + i if i == k else 1.0 for k in range(n) for i in cols[k]]
+    t = factoring(r, c, n, op != "analyse")
+    c["o"] = [] if op == "analyse" else doubles(r, t)
+    dirty(r, c, n + 1)
+    return case(op, "every pattern", [n, n, 0, 0], c)
+
+
 def small_patterns(most):
     """Every pattern of a square matrix up to 3 by 3, and every upper one of 4 by 4, as cases of both engines and the analysis."""
     r, out = random.Random(1), []
@@ -242,15 +252,14 @@ def small_patterns(most):
         at = [(i, k) for k in range(n) for i in range(n) if n < 4 or i <= k]
         for chosen in itertools.product([False, True], repeat=len(at)):
             cols = [[i for (i, j), c in zip(at, chosen) if c and j == k] for k in range(n)]
-            for op in ("analyse",) + FACTORED:
-                c = empty()
-                c["s0"], c["s1"] = pointers(cols), flat(cols)
-                c["v"] = [] if op == "analyse" else [4.0 + i if i == k else 1.0 for k in range(n) for i in cols[k]]
-                t = factoring(r, c, n, op != "analyse")
-                c["o"] = [] if op == "analyse" else doubles(r, t)
-                dirty(r, c, n + 1)
-                out.append(case(op, "every pattern", [n, n, 0, 0], c))
+            out += [of_pattern(op, n, cols, r) for op in ("analyse",) + FACTORED]
     return out
+
+
+def four(first):
+    """Every pattern of a 4 by 4 matrix whose first column has the rows that the four bits of `first` name, for the left factoring."""
+    r, subsets = random.Random(first), [[i for i in range(4) if b >> i & 1] for b in range(16)]
+    return [of_pattern("left", 4, [subsets[first], *rest], r) for rest in itertools.product(subsets, repeat=3)]
 
 
 def generate(seed, count, ops, patterns=4):
