@@ -92,9 +92,31 @@ static void triplets(void)
     printf("65,535 triplets: scratch one short %u, room one short %u, both exact %u\n", ASSEMBLE(need - 1, MOST), ASSEMBLE(need, MOST - 1), ASSEMBLE(need, MOST));
 }
 
+/* The largest dimensions that a size_t holds are refused with 1, by one pointer that is lent; nothing is read past it. */
+static void largest(void)
+{
+    p[0] = 0;
+    printf("the largest size_t: check %u and %u", siwkatenor_check(SIZE_MAX, SIZE_MAX, p, 1, i, 0, v, 0), siwkatenor_check(0, SIZE_MAX, p, 1, i, 0, v, 0));
+    printf(", transposed %u", siwkatenor_transpose(SIZE_MAX, 0, p, 1, i, 0, v, 0, op, 1, oi, 0, ov, 0, SCRATCH));
+    printf(", analysis %u", siwkatenor_analyse(SIZE_MAX, SIZE_MAX, p, 1, i, 0, tree, 1, up, 1, ui, 1, lp, 1, li, 1, SCRATCH));
+    printf(", triplets %u\n", siwkatenor_from_triplet(SIZE_MAX, SIZE_MAX, i, 0, i, 0, v, 0, op, 1, oi, 0, ov, 0, SCRATCH));
+}
+
+/* The diagonal of 65,535 columns transposed is itself: how many pointers, rows and values are not. */
+static void diagonal(void)
+{
+    size_t count = chain(MOST, 0, 0), k, wrong = 0;
+    uint32_t number = siwkatenor_transpose(MOST, MOST, p, MOST + 1, i, count, v, count, op, MOST + 1, oi, count, ov, count, SCRATCH);
+    for (k = 0; k <= MOST; k++) wrong += op[k] != k;
+    for (k = 0; k < MOST; k++) wrong += oi[k] != k || ov[k] != 4;
+    printf("the diagonal of 65,535 columns transposed %u, wrong in %zu places\n", number, wrong);
+}
+
 int main(void)
 {
     if (!lend()) return 1;
+    largest();
+    diagonal();
     columns();
     entries();
     triplets();

@@ -5,6 +5,7 @@ import random
 import struct
 
 import model
+import named
 from model import ROOT, VALUES, WORDS, analysis, flat, of_bits, pointers
 
 FACTORED = ("left", "up")
@@ -264,7 +265,7 @@ def four(first):
 
 def generate(seed, count, ops, patterns=4):
     r = random.Random(seed)
-    out = [k for k in paper() + boundaries() + small_patterns(patterns) if k["op"] in ops]
+    out = [k for k in paper() + named.cases() + boundaries() + small_patterns(patterns) if k["op"] in ops]
     while len(out) < count:
         op = r.choice(ops)
         out.append(damaged(r, op) if r.random() < 0.25 else valid(r, op, r.choice(KINDS)))

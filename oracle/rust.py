@@ -6,7 +6,7 @@ import subprocess
 from model import ROOT, bits
 
 NAMES = dict(root="sqrt", scale="scale", axpy="axpy", forward="fwd", transposed="tr", transpose="transpose", triplet="triplet", sparse="sfwd",
-             product="mul", sum="add", analyse="analyse", left="left", up="up", sums="cumsum")
+             product="mul", sum="add", analyse="analyse", left="left", up="up", sums="cumsum", walk="column")
 
 
 def hexes(l):
@@ -29,6 +29,8 @@ def line(k):
         return hexes(c["x"][:1])
     if op == "sums":
         return [len(c["s0"])] + c["s0"]
+    if op == "walk":
+        return mat(max(c["s1"], default=0) + 1, 1, [0, len(c["s1"])], c["s1"], c["v"]) + [0]
     if op == "axpy":
         return dense(c["b"]) + hexes(c["x"][:1]) + [n, len(c["s1"])] + c["s1"] + hexes(c["v"]) + hexes(c["x"][1:2])
     if op == "triplet":
@@ -63,6 +65,11 @@ def wanted(k, after, answer):
         return {}, {"v": hexes([pivot])}
     if op == "sums":
         return {"sum": [str(column)], "a": [str(x) for x in c["s0"]], "b": [str(x) for x in c["s1"]]}, {}
+    if op == "walk":
+        rows, values = list(c["s1"]), list(c["v"])
+        if n < len(rows) or column != ROOT:
+            rows[n:n + 1], values[n:n + 1] = [column], [pivot]  # the step's entry in its place; at the end there is none
+        return {"i": [str(x) for x in rows]}, {"v": hexes(values)}
     if op == "analyse":
         t = c["s3"][n]
         parts = dict(tree=c["s2"][:n], up=c["s3"][:n + 1], ui=c["s4"][:t], lp=c["s5"][:n + 1], li=c["s6"][:t])
@@ -103,6 +110,8 @@ def fit(k, answer):
         return False  # docs/DIFFERENCES.md: the Rust's assembly turns a -0.0 into +0.0
     if k["op"] == "sums" and (len(k["slots"]["s0"]) != len(k["slots"]["s1"]) or sum(k["slots"]["s0"]) >= 2**32):
         return False  # docs/DIFFERENCES.md: running sums of unlike lengths, or past the index type
+    if k["op"] == "walk" and k["numbers"][1] > len(k["slots"]["s1"]):
+        return False  # a position that no walk of the Rust's has
     if k["op"] in ("root", "scale", "axpy") and len(k["slots"]["x"]) < (2 if k["op"] == "axpy" else 1):
         return False
     return True
