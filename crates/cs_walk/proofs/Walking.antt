@@ -1,7 +1,7 @@
 -- Laws of a walk over a column's parts: what is left at a position, one step of the walk, and the walk over the whole.
 -- Assumes nothing.
 use mathlib.Core.Bool.{Bool, true, false, not, cond}
-use mathlib.Core.List.{List, [], _∷_, _++_, map}
+use mathlib.Core.List.{List, [], _∷_, _++_, map, flatten}
 use mathlib.Core.Logic.{_⊎_, ⊎-elim}
 use mathlib.Core.Path.{_≡_, refl, sym, ap, _∙_, subst}
 use Prim.Native.Nat.{ℕ, zero, suc, _+_, _-_, _≤_, _<_}
@@ -10,13 +10,14 @@ use native.Mathlib.Omega.{arith}
 use borrow.Author.Tests.{eq-eqb, ne-eqb, lt-ltb, le-ltb}
 use lib.Dec.{eqb, ltb}
 use lib.Ieee.{Float, nan}
-use lib.ListN.{length, getD, drop, replicate, length-drop, drop-of-length-le}
+use lib.ListN.{length, getD, take, drop, replicate, length-drop, drop-of-length-le}
 use denote.Ref.{RefT, now}
 use Rattle.lists.specs.Choices.{some}
 use Rattle.lists.proofs.Bools.{eq-or-ne, le-or-lt, not-both, held, failed}
 use Rattle.lists.proofs.Pairs.{pair-at}
-use Rattle.cs_walk.specs.Walk.{number, pairs, given, left, first, after, walked, moved, gives, paired, Whole}
+use Rattle.cs_walk.specs.Walk.{number, pairs, given, left, first, after, walked, moved, gives, paired, told, tells, Whole}
 use Rattle.cs_walk.specs.declared.column_entries.ColumnEntries.{ColumnEntries}
+use Rattle.cs_walk.specs.declared.column_entries.Entry.{Entry}
 use Rattle.cs_walk.specs.declared.column_entries.Entry.the-variants.{Pair, End}
 
 not-suc : {n : ℕ} → suc n ≡ 0 → ⊥
@@ -178,12 +179,39 @@ unfolding gives first
 all-given [] m w q = ap (λ (n : ℕ). gives n w) (zero-add m) ∙ ends m w q
 all-given (e ∷ l) m w q = ap (λ (n : ℕ). gives n w) (suc-add (length l) m) ∙ rw (q, all-given l m (moved w) (moved-rest w q))
 
+-- ---- what is told: the first of what is left, and by n calls the first n
+pub told-first : (l : List (ℕ × Float)) → told (first l) ≡ take 1 l
+unfolding told first
+told-first [] = refl
+told-first (e ∷ l) = refl
+
+-- no two entries tell the same
+pub told-only : (r s : Entry) → told r ≡ told s → r ≡ s
+unfolding told first
+told-only r s e = sym (back r) ∙ ap first e ∙ back s
+  where
+    back : (r : Entry) → first (told r) ≡ r
+    back (Pair r x) = refl
+    back End = refl
+
+tells-end : (n : ℕ) (w : ColumnEntries) → walked w ≡ [] → tells n w ≡ []
+unfolding gives first told flatten
+tells-end zero w q = refl
+tells-end (suc n) w q = rw (q, tells-end n (moved w) (moved-end w q))
+
+all-told : (l : List (ℕ × Float)) (n : ℕ) (w : ColumnEntries) → walked w ≡ l → tells n w ≡ take n l
+unfolding gives first told flatten
+all-told l zero w q = refl
+all-told [] (suc n) w q = tells-end (suc n) w q
+all-told (e ∷ l) (suc n) w q = rw (q, all-told l n (moved w) (moved-rest w q))
+
 -- ---- a walker at the start
 pub whole : (i : RefT (List ℕ)) (v : RefT (List Float)) → Whole (now i) (now v) (record { curr = 0; i = i; v = v })
 unfolding left
 whole i v =
     record {
       in-order = λ m. all-given (given (now i) (now v)) m (record { curr = 0; i = i; v = v }) refl;
+      as-told = λ n. all-told (given (now i) (now v)) n (record { curr = 0; i = i; v = v }) refl;
       only-end = λ n. given-none (now i) (now v) (sym n);
       rows = λ n. let e = number-means (now i) (now v) n in ap (map (λ (e : ℕ × Float). e .0)) (given-same (now i) (now v) e) ∙ rows-back (now i) (now v) e;
       values = λ n. let e = number-means (now i) (now v) n in ap (map (λ (e : ℕ × Float). e .1)) (given-same (now i) (now v) e) ∙ values-back (now i) (now v) e;

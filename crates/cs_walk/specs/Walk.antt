@@ -1,11 +1,11 @@
 -- A walk over one column: document 01, "A walker over one column of a lent matrix". Assumes nothing.
 use mathlib.Core.Bool.{not, cond}
-use mathlib.Core.List.{List, [], _∷_, _++_, map}
+use mathlib.Core.List.{List, [], _∷_, _++_, map, flatten}
 use mathlib.Core.Path.{_≡_}
 use Prim.Native.Nat.{ℕ, zero, suc, _+_}
 use lib.Dec.{eqb}
 use lib.Ieee.{Float}
-use lib.ListN.{length, drop, replicate}
+use lib.ListN.{length, take, drop, replicate}
 use denote.Ref.{now}
 use Rattle.lists.specs.Calls.{lowest, disagree}
 use Rattle.lists.specs.Choices.{some}
@@ -31,6 +31,11 @@ given i v = cond (eqb (number i v) 0) (pairs i v) []
 -- what is left of it from a position on
 unfoldable pub left : ℕ → List ℕ → List Float → List (ℕ × Float)
 left curr i v = drop curr (given i v)
+
+-- what an entry tells in document 01's words: a row and its value, or at the end nothing
+unfoldable pub told : Entry → List (ℕ × Float)
+told (Pair r x) = (r, x) ∷ []
+told End = []
 
 -- the first of what is left, or the end
 unfoldable pub first : List (ℕ × Float) → Entry
@@ -61,9 +66,14 @@ gives (suc n) w = first (walked w) ∷ gives n (moved w)
 abbrev pub paired : ℕ × Float → Entry
 paired e = Pair (e .0) (e .1)
 
+-- what n calls tell
+abbrev pub tells : ℕ → ColumnEntries → List (ℕ × Float)
+tells n w = flatten (map told (gives n w))
+
 -- a walk over the whole: the pairs in order, then the end for ever; and the pairs are the two parts, side by side
 pub record Whole (i : List ℕ) (v : List Float) (w : ColumnEntries) : Type 0 where
   pub in-order : (m : ℕ) → gives (length (given i v) + m) w ≡ map paired (given i v) ++ replicate m End
+  pub as-told : (n : ℕ) → tells n w ≡ take n (given i v)
   pub only-end : number i v ≡ 2 → given i v ≡ []
   pub rows : number i v ≡ 0 → map (λ e. e .0) (given i v) ≡ i
   pub values : number i v ≡ 0 → map (λ e. e .1) (given i v) ≡ v

@@ -2,9 +2,9 @@
 // over it takes it apart and leaves the work to a step on a number and two slices. `next_entry` takes the parts and the
 // position themselves, for callers that hold no walker.
 ghost use mathlib.Core.Path.{_≡_};
-ghost use lib.ListN.{length};
+ghost use lib.ListN.{length, take};
 ghost use Rattle.lists.specs.Choices.{some};
-ghost use Rattle.cs_walk.specs.Walk.{number, left, first, after, walked, moved, Whole, step};
+ghost use Rattle.cs_walk.specs.Walk.{number, left, first, told, after, walked, moved, Whole, step};
 
 pub struct ColumnEntries<'a, 'b> {
     curr: usize,
@@ -92,7 +92,7 @@ impl<'a, 'b> ColumnEntries<'a, 'b> {
 
     // The next entry, or the end, for ever.
     pub fn next(&mut self) -> Entry
-        ensures { λ r. ⌜ (r ≡ first (walked (now (self .entry)))) × (now (self .exit) ≡ moved (now (self .entry))) ⌝ }
+        ensures { λ r. ⌜ (r ≡ first (walked (now (self .entry)))) × (told r ≡ take 1 (walked (now (self .entry)))) × (now (self .exit) ≡ moved (now (self .entry))) ⌝ }
     {
         let curr = self.curr;
         let i = self.i;
@@ -113,7 +113,7 @@ impl<'a, 'b> ColumnEntries<'a, 'b> {
 // One step of a walk from a position: what the walker says of the parts, the entry there or the end, the position behind it,
 // and how many entries are left from there.
 pub fn next_entry(curr: usize, i: &[u32], v: &[f64]) -> Step
-    ensures { λ r. ⌜ r ≡ step curr (now (i .entry)) (now (v .entry)) ⌝ }
+    ensures { λ r. ⌜ (r ≡ step curr (now (i .entry)) (now (v .entry))) × (told (r .entry) ≡ take 1 (left curr (now (i .entry)) (now (v .entry)))) ⌝ }
 {
     let mut entries = ColumnEntries::new(i, v);
     entries.curr = curr;

@@ -1,7 +1,7 @@
 -- `ColumnEntries::next` meets its contract: a walk of its MIR, by hand. The borrow of the walker is opened, `entry_at` and `curr_after` are called on its fields, the position that the second returned is stored in the walker's cell, and the borrow is closed at the walker with that position.
 -- All that the proof knows of the two is that each meets its contract. They take the fields in their order and nothing else. What the walker owns is Copy: a copy goes to each callee, beside the tokens of the parts' lifetimes, which come back.
 -- Assumes nothing.
-use mathlib.Core.Path.{_≡_, refl, ap}
+use mathlib.Core.Path.{_≡_, refl, ap, _∙_}
 use Prim.Native.Nat.{ℕ, _<_, _^_}
 use mathlib.Core.List.{[], _∷_, List}
 use lib.ListN.{length}
@@ -45,7 +45,8 @@ use denote.Triple.Spec.{Meets, tripleOf}
 use denote.Triple.Statement.{Contract, Triple}
 use denote.Triple.Table.{entered, cited}
 use denote.Triple.Walked.{says, Stays, stay-ref, walkOf, goes-ref, Walks, ends-at, walked, walk-meets}
-use Rattle.cs_walk.specs.Walk.{left, first, after}
+use Rattle.cs_walk.specs.Walk.{left, first, told, after}
+use Rattle.cs_walk.proofs.Walking.{told-first}
 use Rattle.cs_walk.specs.declared.column_entries.ColumnEntries.{ColumnEntries}
 use Rattle.cs_walk.specs.declared.column_entries.Entry.{Entry}
 use Rattle.cs_walk.proofs.column_entries.ColumnEntries as T
@@ -168,7 +169,7 @@ module _ {M : Type 1} (𝓤 : URA M) (H : Heap 𝓤) (A : Atoms 𝓤) (W : Given
       → ent 𝓤 (⋆ 𝓤 H A (‵ (fobs γ (R .coded .code (h′ n))) ∷ ‵ (fbor κ (Body (mem R) b o γ)) ∷ ‵ (flft κ q) ∷ (‵ (flft κ₁ q₁) ⊛ ‵ (flft κ₂ q₂) ⊛ ‵ ftrue) ∷ ‵ (E.the-row .own r (u ∷ [])) ∷ [])) (Post u)
   exits r u n e₁ e₂ =
       qed W (‵ (fobs γ (R .coded .code (h′ n))) ∷ ‵ (fbor κ (Body (mem R) b o γ)) ∷ ‵ (flft κ q) ∷ (‵ (flft κ₁ q₁) ⊛ ‵ (flft κ₂ q₂) ⊛ ‵ ftrue) ∷ ‵ (E.the-row .own r (u ∷ [])) ∷ []) ∵
-      suffices ! _ (ends-at 𝓤 H A next.ended stayed (next.clauses 𝓤 H A at-mem run) W (((κ, (κ₁, (κ₂, tt))), (q, (q₁, (q₂, tt))), bounds, a, vals), tt) u r (h′ n, tt) (tt, tt)) $ says ! (e₁, ap h′ e₂) $
+      suffices ! _ (ends-at 𝓤 H A next.ended stayed (next.clauses 𝓤 H A at-mem run) W (((κ, (κ₁, (κ₂, tt))), (q, (q₁, (q₂, tt))), bounds, a, vals), tt) u r (h′ n, tt) (tt, tt)) $ says ! (e₁, ap told e₁ ∙ told-first (left (h .curr) (now (h .i)) (now (h .v))), ap h′ e₂) $
       move ! (2 ∷ 3 ∷ []) $ join ! $ frame ! $ feqI ! (List Val) (vptr b o ∷ []) (vptr b o ∷ []) refl $ fjoin3 ! $ nothing ! $ move ! (1 ∷ 0 ∷ []) $ fjoin ! $ frame ! $ done !
 
   -- what whoever holds the walker knows of its fields
