@@ -43,58 +43,56 @@ inline Matrix stored(size_t n, const Triplets &t)
     return m;
 }
 
-inline Matrix laplacian(size_t side)
+// The matrix whose entries `column(t, k)` puts, for each column k.
+template <class Column> Matrix by_columns(size_t n, Column column)
 {
     Triplets t;
+    for (size_t k = 0; k < n; k++) column(t, k);
+    return stored(n, t);
+}
+
+inline Matrix laplacian(size_t side)
+{
     size_t n = side * side;
-    for (size_t k = 0; k < n; k++) {
+    return by_columns(n, [=](Triplets &t, size_t k) {
         t.put(k, k, 4);
         if ((k + 1) % side) t.both(k + 1, k, -1);
         if (k + side < n) t.both(k + side, k, -1);
-    }
-    return stored(n, t);
+    });
 }
 
 inline Matrix band(size_t n, size_t width)
 {
-    Triplets t;
-    for (size_t k = 0; k < n; k++) {
+    return by_columns(n, [=](Triplets &t, size_t k) {
         t.put(k, k, 2.0 * width + 1);
         for (size_t d = 1; d <= width && k + d < n; d++) t.both(k + d, k, -1.0 / d);
-    }
-    return stored(n, t);
+    });
 }
 
 inline Matrix diagonal(size_t n)
 {
-    Triplets t;
-    for (size_t k = 0; k < n; k++) t.put(k, k, 2.0 + k % 5);
-    return stored(n, t);
+    return by_columns(n, [](Triplets &t, size_t k) { t.put(k, k, 2.0 + k % 5); });
 }
 
 // Each column but the last has one neighbour behind it, so L has no fill.
 inline Matrix tree(size_t n)
 {
-    Triplets t;
     std::mt19937 random(1);
-    for (size_t k = 0; k < n; k++) {
+    return by_columns(n, [&](Triplets &t, size_t k) {
         t.put(k, k, 60);
         if (k + 1 < n) t.both(std::min<size_t>(n - 1, k + 1 + random() % 50), k, -1);
-    }
-    return stored(n, t);
+    });
 }
 
 // About four places a column.
 inline Matrix small(size_t n)
 {
-    Triplets t;
     std::mt19937 random(2);
-    for (size_t k = 0; k < n; k++) {
+    return by_columns(n, [&](Triplets &t, size_t k) {
         t.put(k, k, 20);
         for (size_t r = 0; r < k; r++)
             if (random() % n < 2) t.both(r, k, -0.5 - 0.125 * (random() % 8));
-    }
-    return stored(n, t);
+    });
 }
 
 // `row column value` a line, one triangle, rows and columns from 0.
