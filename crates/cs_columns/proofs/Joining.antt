@@ -1,7 +1,7 @@
 -- Columns one behind another: how long they are, where each lies, and that they make a valid matrix. Assumes nothing.
 use mathlib.Core.Path.{_≡_, refl, sym, ap, _∙_}
 use mathlib.Core.Bool.{Bool, true}
-use mathlib.Core.List.{List, [], _∷_, _++_, map, append-assoc, append-nil, List·Memᴰ, List·Memᴰ·head, List·Memᴰ·tail}
+use mathlib.Core.List.{List, [], _∷_, _++_, map, append-assoc, append-nil}
 use mathlib.Core.Logic.{⊎-elim}
 use Prim.Native.Nat.{ℕ, zero, suc, _+_, _-_, _*_, _≤_, _<_}
 use native.Mathlib.Nat.{eq-or-lt-of-le}
@@ -18,6 +18,7 @@ use Rattle.lists.proofs.Bools.{le-or-lt}
 use Rattle.lists.proofs.Chosen.{chosen-within, chosen-member, chosen-rising}
 use Rattle.lists.proofs.Laying.{part-at}
 use Rattle.lists.proofs.Ordering.{rising-rises}
+use Rattle.lists.proofs.Skipping.{getD-member}
 use Rattle.lists.proofs.Tables.{length-table, getD-table}
 use Rattle.cs_matrix.specs.Matrix.{column, Valid, ValidPattern}
 use Rattle.cs_columns.specs.Columns.{joined, withColumns, withEntries}
@@ -63,6 +64,14 @@ module _ {A : Type 0} (f : ℕ → List A) where
   unfolding joined
   joined-within zero h = omega arith
   joined-within (suc n) h = omega (arith, length-append (joined f n) (f n), h n (omega arith), joined-within n (λ j l. h j (omega arith)))
+
+  -- no more than the steps of g, where each column is no longer than its step
+  pub joined-steps : (g : ℕ → ℕ) (n : ℕ) → ((j : ℕ) → j < n → length (f j) + g j ≤ g (j + 1)) → length (joined f n) + g 0 ≤ g n
+  unfolding joined
+  joined-steps g zero h = omega arith
+  joined-steps g (suc n) h =
+      let s = rw add-one at (h n (omega arith)) in
+      omega (arith, length-append (joined f n) (f n), s, joined-steps g n (λ j l. h j (omega arith)))
 
   -- what holds of every item of every column
   pub in-joined : (P : A → Type 0) (z : A) (n : ℕ) → ((j : ℕ) → j < n → (k : ℕ) → k < length (f j) → P (getD (f j) k z)) → (q : ℕ) → q < length (joined f n) → P (getD (joined f n) q z)
@@ -127,11 +136,6 @@ module _ {nrows ncols : ℕ} {rows : ℕ → List ℕ} {vals : ℕ → List Floa
       }
 
 -- ---- the rows at which a test holds, each with its value
-getD-member : (l : List ℕ) (k : ℕ) → k < length l → List·Memᴰ (getD l k 0) l
-getD-member [] k h = absurd (omega arith)
-getD-member (x ∷ l) zero h = List·Memᴰ·head refl
-getD-member (x ∷ l) (suc k) h = List·Memᴰ·tail (getD-member l k (omega arith))
-
 module _ (nrows ncols : ℕ) (f : ℕ → ℕ → Bool) (g : ℕ → ℕ → Float) where
   abbrev pub rowsOf : ℕ → List ℕ
   rowsOf j = chosen nrows (f j)

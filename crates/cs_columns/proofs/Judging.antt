@@ -77,6 +77,13 @@ module _ (n k p i v : ℕ) where
       let g = room n k p i v (x .1) in
       record { few = ltb-false 4194304 k (x .0); in-p = g .in-p; in-i = g .in-i; in-v = g .in-v }
 
+-- where there is room for k there is for fewer
+pub short-fewer : (n k m p i v : ℕ) → shortFor n k p i v ≡ false → m ≤ k → shortFor n m p i v ≡ false
+unfolding shortFor shortBy
+short-fewer n k m p i v h l =
+    let r = roomy n k p i v h in
+    rw (le-ltb 4194304 m (omega (arith, r .few)), le-ltb p (n + 1) (r .in-p), le-ltb i m (omega (arith, r .in-i)), le-ltb v m (omega (arith, r .in-v)))
+
 -- of a matrix whose lists are as long as its columns and entries say
 pub short-for : (a : Matrix) (out : Stored) (n k : ℕ) → length (a .pattern .p) ≡ n + 1 → length (a .pattern .i) ≡ k → length (a .v) ≡ k
     → short a out ≡ shortFor n k (length (out .p)) (length (out .i)) (length (out .v))

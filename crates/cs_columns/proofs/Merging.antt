@@ -1,53 +1,22 @@
 -- Two rising lists merged: the numbers that are listed in one or the other, rising. Assumes nothing.
 use mathlib.Core.Path.{_≡_, refl, sym, ap, _∙_}
 use mathlib.Core.Bool.{Bool, true, false, _||_}
-use mathlib.Core.List.{List, [], _∷_, _++_, List·Memᴰ, List·Memᴰ·head, List·Memᴰ·tail, List·Memᴰ·not-nil, List·Memᴰ·cases-cons}
+use mathlib.Core.List.{List, [], _∷_, _++_}
 use mathlib.Core.Logic.{_⊎_, ⊎-elim}
 use Prim.Native.Nat.{ℕ, zero, suc, _+_, _-_, _≤_, _<_}
 use native.Mathlib.Nat.{eq-or-lt-of-le}
-use native.Mathlib.Numerals.{add-one}
 use native.Mathlib.Omega.{arith}
-use lib.Dec.{eqb}
 use lib.ListN.{length, getD, List·getD-eq-default}
 use Rattle.lists.specs.Choices.{chosen}
 use Rattle.lists.specs.Order.{rises, lists}
 use Rattle.lists.proofs.Bools.{le-or-lt}
-use Rattle.lists.proofs.Choices.{chosen-more, chosen-same, chosen-none}
+use Rattle.lists.proofs.Choices.{chosen-none}
 use Rattle.lists.proofs.Chosen.{chosen-within, chosen-grows}
-use Rattle.lists.proofs.Members.{lists-same, lists-other, getD-any}
+use Rattle.lists.proofs.HowMany.{chosen-or, chosen-lists}
+use Rattle.lists.proofs.Members.{getD-any}
 use Rattle.lists.proofs.Ordering.{rises-apart}
+use Rattle.lists.proofs.Skipping.{chosen-next, chosen-rest, lists-at, lists-nowhere}
 use Rattle.cs_columns.specs.Columns.{either}
-
--- ---- the next number at which a test holds
-chosen-skip : (f : ℕ → Bool) (b r : ℕ) → b ≤ r → ((m : ℕ) → b ≤ m → m < r → f m ≡ false) → chosen r f ≡ chosen b f
-chosen-skip f b zero h g = let e : b ≡ 0 = omega arith in rw e
-chosen-skip f b (suc r) h g =
-    ⊎-elim
-    (λ (e : b ≡ suc r). rw e)
-    (λ (l : b < suc r). (rw (← (add-one r)) (chosen-same r f (g r (omega arith) (omega arith)))) ∙ chosen-skip f b r (omega arith) (λ m o q. g m o (omega arith)))
-    (eq-or-lt-of-le h)
-
-pub chosen-next : (f : ℕ → Bool) (b r : ℕ) → b ≤ r → ((m : ℕ) → b ≤ m → m < r → f m ≡ false) → f r ≡ true → chosen (r + 1) f ≡ chosen b f ++ (r ∷ [])
-chosen-next f b r h g e = chosen-more r f e ∙ ap (λ (l : List ℕ). l ++ (r ∷ [])) (chosen-skip f b r h g)
-
-pub chosen-rest : (f : ℕ → Bool) (b n : ℕ) → b ≤ n → ((m : ℕ) → b ≤ m → m < n → f m ≡ false) → chosen n f ≡ chosen b f
-chosen-rest f b n h g = chosen-skip f b n h g
-
--- ---- listed, place by place
-pub lists-at : (l : List ℕ) (k : ℕ) → k < length l → lists (getD l k 0) l ≡ true
-unfolding lists
-lists-at [] k h = absurd (omega arith)
-lists-at (x ∷ l) zero h = lists-same x x l refl
-lists-at (x ∷ l) (suc k) h = go (eqb (getD l k 0) x) (lists-at l k (omega arith))
-  where
-    go : (b : Bool) → lists (getD l k 0) l ≡ true → (b || lists (getD l k 0) l) ≡ true
-    go true e = refl
-    go false e = e
-
-pub lists-nowhere : (x : ℕ) (l : List ℕ) → ((k : ℕ) → k < length l → getD l k 0 ≡ x → ⊥) → lists x l ≡ false
-unfolding lists
-lists-nowhere x [] h = refl
-lists-nowhere x (y ∷ l) h = lists-other x y l (λ e. h 0 (omega arith) (sym e)) ∙ lists-nowhere x l (λ k m. h (suc k) (omega arith))
 
 -- ---- one of the two lists: it rises, k of it are below b, and the others are not
 pub record Half (l : List ℕ) (k b : ℕ) : Type 0 where
@@ -263,3 +232,8 @@ merging-start n l m h f g u w = record { small = h; l-below = f; m-below = g; bo
 -- no more are found than there are in the end
 pub merging-room : {n : ℕ} {l m : List ℕ} {ka kb : ℕ} {found : List ℕ} → Merging n l m ka kb found → length found ≤ length (chosen n (either l m))
 merging-room {n} {l} {m} v = rw (v .is) (chosen-grows (either l m) (v .bound) n (v .within))
+
+-- the numbers of both are no more than the two are long
+pub either-most : (n : ℕ) (l m : List ℕ) → length (chosen n (either l m)) ≤ length l + length m
+unfolding either
+either-most n l m = omega (arith, chosen-or n (either l m) (λ r. lists r l) (λ r. lists r m) (λ r h e. e), chosen-lists n l, chosen-lists n m)

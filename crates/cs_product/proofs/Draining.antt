@@ -18,38 +18,11 @@ use Rattle.lists.proofs.Bools.{eq-or-ne, not-both, or-none}
 use Rattle.lists.proofs.Chosen.{chosen-alike, chosen-within, keep-append, keep-chosen, map-more}
 use Rattle.cs_columns.specs.Columns.{laid}
 use Rattle.cs_columns.proofs.Filling.{laid-none, laid-more, length-laid}
-use Rattle.cs_columns.proofs.Merging.{lists-nowhere}
+use Rattle.lists.proofs.Kept.{keep-next, keep-front, keep-within}
+use Rattle.lists.proofs.Skipping.{lists-nowhere}
 use Rattle.cs_product.specs.Product.{remains}
 use Rattle.cs_product.specs.Steps.{Drain, Taking}
-use Rattle.cs_product.proofs.Onces.{lists-snoc, once-new, keep-card, card-once}
-
--- ---- what is kept of a list, one more
-module _ (f : ℕ → Bool) (l : List ℕ) where
-  one-kept : (r : ℕ) (b : Bool) → f r ≡ b → keep f (r ∷ []) ≡ cond b (r ∷ []) []
-  unfolding keep
-  one-kept r b e = rw e
-
-  keep-next : (k : ℕ) → k < length l → (b : Bool) → f (getD l k 0) ≡ b → keep f (take (k + 1) l) ≡ keep f (take k l) ++ cond b (getD l k 0 ∷ []) []
-  keep-next k h b e =
-      rw (add-one, take-suc l k 0 h)
-      (keep-append f (take k l) (getD l k 0 ∷ []) ∙ ap (λ (t : List ℕ). keep f (take k l) ++ t) (one-kept (getD l k 0) b e))
-
-  keep-front : (k : ℕ) → length (keep f (take k l)) ≤ length (keep f l)
-  keep-front k =
-      let e = ap (keep f) (sym (take-append-drop k l)) ∙ keep-append f (take k l) (drop k l) in
-      omega (arith, ap length e, length-append (keep f (take k l)) (keep f (drop k l)))
-
-  keep-within : length (keep f l) ≤ length l
-  unfolding keep
-  keep-within = go l
-    where
-      step : (b : Bool) (x : ℕ) (l : List ℕ) → length (cond b (x ∷ keep f l) (keep f l)) ≤ length (keep f l) + 1
-      step true x l = omega arith
-      step false x l = omega arith
-
-      go : (l : List ℕ) → length (keep f l) ≤ length l
-      go [] = omega arith
-      go (x ∷ l) = omega (arith, step (f x) x l, go l)
+use Rattle.lists.proofs.Onces.{lists-snoc, once-new, keep-card, card-once}
 
 -- ---- x, with k rows taken out
 module _ (n : ℕ) (rows : List ℕ) where

@@ -1,4 +1,3 @@
-pub mod Onces
 pub mod Meeting
 pub mod Draining
 pub mod Sorted

@@ -23,10 +23,10 @@ use Rattle.lists.proofs.Folds.{Over, over-start, over-turn, over-end}
 use Rattle.lists.proofs.Parts.{length-part}
 use Rattle.cs_matrix.specs.Matrix.{Matrix, matrix, column, Valid}
 use Rattle.cs_matrix.proofs.Pointers.{Between, between, column-is, length-column, getD-column}
-use Rattle.cs_columns.proofs.Merging.{lists-nowhere}
+use Rattle.lists.proofs.Skipping.{lists-nowhere}
 use Rattle.cs_product.specs.Product.{addAt, addColumn}
 use Rattle.cs_product.specs.Steps.{Met, Fresh, Adding, Starting}
-use Rattle.cs_product.proofs.Onces.{lists-snoc, once-snoc, below-snoc, card-once}
+use Rattle.lists.proofs.Onces.{lists-snoc, once-snoc, below-snoc, card-once}
 
 module _ {n stamp : ℕ} {mark met : List ℕ} {x : List Float} {count : ℕ} (m : Met n stamp mark met x count) {r : ℕ} (h : r < n) where
   abbrev rows : List ℕ

@@ -17,6 +17,7 @@ use Rattle.lists.proofs.Calls.{first, then, early, kept, late, done, left-alone
 use Rattle.lists.proofs.Clearing.{length-cleared, cleared-front, cleared-same, cleared-again}
 use Rattle.lists.proofs.Laying.{part-long}
 use Rattle.lists.proofs.Parts.{length-part, getD-part, length-placed}
+use Rattle.lists.proofs.Scratches.{part-clean, clean-again}
 use Rattle.lists.proofs.Tables.{length-table}
 use Rattle.cs_matrix.specs.Matrix.{Matrix, matrix, Stored, stored, column, short, written, Valid}
 use Rattle.cs_matrix.proofs.Pointers.{Between, between, column-is, length-column, getD-column}
@@ -245,21 +246,6 @@ module _ (nrows ncols : ℕ) (ap ai : List ℕ) (av : List Float) (bncols : ℕ)
         at-end f = (rw (short-is, h), left-written _ old f, λ q. product-valid (c .first .pattern .rows) (c .second .pattern .cols) (omega (arith, e, room-is .few)))
 
 -- ---- the scratch that a part was lent of
-part-clean : {A : Type 0} (z : A) (n need : ℕ) (l : List A) → n ≤ need → need ≤ length l → part 0 n (cleared z need l) ≡ replicate n z
-part-clean z n need l g h =
-    let long = length-part 0 n (cleared z need l) (omega (arith, length-cleared z need l)) in
-    ext-getD z _ _ (long ∙ (omega (arith, length-replicate n z)))
-    (λ k m. getD-part 0 n (cleared z need l) k z (omega (arith, long)) ∙ cleared-front z need l (0 + k) (omega (arith, long)) ∙ sym (getD-replicate n k z z (omega (arith, long))))
-
-clean-again : {A : Type 0} (z : A) (n need : ℕ) (l ys : List A) → n ≤ need → need ≤ length l → length ys ≡ n → cleared z need (placed 0 n l ys) ≡ cleared z need l
-clean-again z n need l ys g h e = cleared-same z need (placed 0 n l ys) l (length-placed 0 n l ys (omega arith) (omega arith) (omega arith)) rest
-  where
-    rest : (q : ℕ) → need ≤ q → getD (placed 0 n l ys) q z ≡ getD l q z
-    rest q m =
-        let f : length ys + (q - length ys) ≡ q = omega arith in
-        let d : n - 0 + (q - length ys) ≡ q = omega arith in
-        (rw f at (getD-append-add ys (drop (n - 0) (drop 0 l)) (q - length ys) z)) ∙ (rw d at (getD-drop (n - 0) l (q - length ys) z))
-
 module _ (n need : ℕ) (g : n ≤ need) (work : Scratch) {t : Bool} (f : t ≡ narrow need work) (h : t ≡ false) {s : Scratch} (q : s ≡ wiped need work) where
   w1-is : s .w1 ≡ cleared 0 need (work .w1)
   unfolding wiped

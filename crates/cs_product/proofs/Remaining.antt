@@ -21,7 +21,7 @@ use Rattle.cs_columns.specs.Columns.{laid}
 use Rattle.cs_product.specs.Product.{addColumn, remains}
 use Rattle.cs_product.specs.Steps.{columnOf, inOrder, Met, Fresh, Starting, Loose, Drain, Taking, Column}
 use Rattle.cs_product.proofs.Draining.{valuesOf}
-use Rattle.cs_product.proofs.Onces.{keep-card}
+use Rattle.lists.proofs.Onces.{keep-card}
 use Rattle.cs_product.proofs.Sorted.{order-lists, order-below, order-long}
 
 -- a row whose x is +0.0 does not remain

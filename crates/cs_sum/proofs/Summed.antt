@@ -13,16 +13,17 @@ use Rattle.lists.specs.Choices.{chosen}
 use Rattle.lists.specs.Parts.{part}
 use Rattle.lists.specs.Order.{rises}
 use Rattle.lists.specs.Tables.{table}
-use Rattle.lists.proofs.Bools.{or-false, not-holds}
+use Rattle.lists.proofs.Bools.{or-false, not-holds, failed}
 use Rattle.lists.proofs.Calls.{first, then, below-7, left-alone, left-written}
 use Rattle.lists.proofs.Parts.{length-part}
 use Rattle.lists.proofs.Tables.{length-table}
 use Rattle.cs_matrix.specs.Matrix.{Matrix, matrix, Stored, stored, column, short, written, Valid, ValidPattern}
-use Rattle.cs_matrix.proofs.Pointers.{Between, between, column-is, length-column, getD-column}
+use Rattle.cs_matrix.proofs.Pointers.{Between, between, column-is, length-column, getD-column, last-at}
 use Rattle.cs_columns.specs.Columns.{joined, withColumns, withEntries, either, laid, judgedTwo, shortFor}
 use Rattle.cs_columns.proofs.Filling.{Ask, Filling, filling-start, filling-turn, filling-end, filling-at, filling-i, filling-v, room-i, room-v, room-p, room-all}
-use Rattle.cs_columns.proofs.Joining.{joined-none, length-more, joined-grows, joined-alike, entries-within, entries-columns, entries-valid}
-use Rattle.cs_columns.proofs.Judging.{early-two, Passed, passed, Roomy, roomy, short-for}
+use Rattle.cs_columns.proofs.Joining.{joined-none, length-more, joined-steps, joined-alike, entries-within, entries-valid}
+use Rattle.cs_columns.proofs.Judging.{early-two, Passed, passed, Roomy, roomy, short-fewer, short-for}
+use Rattle.cs_columns.proofs.Merging.{either-most}
 use Rattle.cs_sum.specs.Steps.{Risen, Column, Alike, Ready}
 use Rattle.cs_sum.specs.Sum.{summedAt, rowOf, valueOf, sum, differ, number}
 
@@ -130,6 +131,30 @@ module _ (nrows ncols : ℕ) (ap ai : List ℕ) (av : List Float) (bp bi : List 
 
     pub tallying-done : ncols ≤ j → places ≡ length (joined rows ncols)
     tallying-done h = let e : j ≡ ncols = omega (arith, s .within) in s .is ∙ cong (λ (k : ℕ). length (joined rows k)) e
+
+  -- ---- `lacks_room`
+  module _ (v : Alike a b) where
+    -- a column takes no more than the entries of both
+    column-most : (j : ℕ) → j < ncols → length (rows j) + (getD ap j 0 + getD bp j 0) ≤ getD ap (j + 1) 0 + getD bp (j + 1) 0
+    unfolding rowOf
+    column-most j h =
+        let s = between (v .first .pattern .ptrs) (v .first .pattern .p-long) h refl refl in
+        let t = between (v .second .pattern .ptrs) (v .second .pattern .p-long) h refl refl in
+        omega (arith, either-most nrows (column ap j ai) (column bp j bi), length-column ap j ai (s .inside), length-column bp j bi (t .inside), s .order, t .order)
+
+    places-most : length (joined rows ncols) ≤ length ai + length bi
+    places-most =
+        let s = v .first .pattern in
+        let t = v .second .pattern in
+        omega
+        (arith, joined-steps rows (λ (j : ℕ). getD ap j 0 + getD bp j 0) ncols column-most, s .ptrs .first, t .ptrs .first, last-at (s .ptrs) ncols (s .p-long), last-at (t .ptrs) ncols (t .p-long))
+
+    module _ (p i w : ℕ) {t : Bool} where
+      pub room-for-both : t ≡ shortFor ncols (length ai + length bi) p i w → not t ≡ true → false ≡ shortFor ncols (length (joined rows ncols)) p i w
+      room-for-both e h = sym (short-fewer ncols (length ai + length bi) (length (joined rows ncols)) p i w (failed e h) places-most)
+
+      pub room-counted : {places : ℕ} → places ≡ length (joined rows ncols) → t ≡ shortFor ncols places p i w → t ≡ shortFor ncols (length (joined rows ncols)) p i w
+      room-counted f e = rw f at e
 
   -- ---- `fill`
   pub record Writing (op₀ oi₀ : List ℕ) (ov₀ : List Float) (op oi : List ℕ) (ov : List Float) (at j : ℕ) : Type 0 where
@@ -244,22 +269,22 @@ module _ (n m : ℕ) (pa ia : List ℕ) (va : List Float) (k l : ℕ) (pb ib : L
       unfolding number
       after-5 = then (judgedTwo A B (differ n m k l)) _ (early-two A B _) judged-is z
 
-      module _ {places : ℕ} (f : places ≡ size A C) {t : Bool} (g : t ≡ shortFor m places (length (old .p)) (length (old .i)) (length (old .v))) where
-        size-is : size A B ≡ places
-        size-is = sym (rw same at f)
+      module _ {t : Bool} (g : t ≡ shortFor m (size A C) (length (old .p)) (length (old .i)) (length (old .v))) where
+        size-is : size A B ≡ size A C
+        size-is = rw same
 
         short-is : short (sum A B) old ≡ t
-        short-is = short-for (sum A B) old m places (p-long A B) (i-long A B ∙ size-is) (v-long A B ∙ size-is) ∙ sym g
+        short-is = short-for (sum A B) old m (size A C) (p-long A B) (i-long A B ∙ size-is) (v-long A B ∙ size-is) ∙ sym g
 
         pub at-7 : t ≡ true → Answer 7 old
         at-7 h = (rw (← after-5, short-is, h), left-alone 7 _ old (λ q. omega arith) (λ q. omega arith), λ q. absurd (omega arith))
 
         module _ (h : t ≡ false) where
-          room-is : Roomy m places (length (old .p)) (length (old .i)) (length (old .v))
-          room-is = roomy m places (length (old .p)) (length (old .i)) (length (old .v)) (sym g ∙ h)
+          room-is : Roomy m (size A C) (length (old .p)) (length (old .i)) (length (old .v))
+          room-is = roomy m (size A C) (length (old .p)) (length (old .i)) (length (old .v)) (sym g ∙ h)
 
           pub ready : Ready A C old
-          ready = record { alike = alike; few = omega (arith, room-is .few, f); in-p = room-is .in-p; in-i = omega (arith, room-is .in-i, f); in-v = omega (arith, room-is .in-v, f) }
+          ready = record { alike = alike; few = room-is .few; in-p = room-is .in-p; in-i = room-is .in-i; in-v = room-is .in-v }
 
           pub at-end : {o : Stored} → o ≡ written (sum A C) old → Answer 0 o
           at-end e = (

@@ -1,10 +1,10 @@
-// The sum: both operands are judged, the different places counted, then each pair of columns merged.
+// The sum: both operands are judged, the different places counted where the outputs may lack room, then each pair of columns merged.
 ghost use mathlib.Core.Path.{_≡_};
 ghost use lib.ListN.{length};
 ghost use Rattle.lists.specs.Calls.{outputs};
 ghost use Rattle.lists.specs.Choices.{chosen};
 ghost use Rattle.cs_matrix.specs.Matrix.{matrix, stored, written, Valid};
-ghost use Rattle.cs_columns.specs.Columns.{joined};
+ghost use Rattle.cs_columns.specs.Columns.{joined, shortFor};
 ghost use Rattle.cs_sum.specs.Steps.{Alike, Ready};
 ghost use Rattle.cs_sum.specs.Sum.{rowOf, sum as sumOf, differ as differOf, number};
 use crate::merge::count_rows;
@@ -48,6 +48,32 @@ fn count(
         places += count_rows(nrows, &ai[a..e], &bi[c..d]);
     }
     places
+}
+
+// Number 7, by the lengths of the outputs. Room for the entries of both is room for the different places, which are then not counted.
+fn lacks_room(
+    nrows: usize,
+    ncols: usize,
+    ap: &[u32],
+    ai: &[u32],
+    av: &[f64],
+    bp: &[u32],
+    bi: &[u32],
+    bv: &[f64],
+    plen: usize,
+    ilen: usize,
+    vlen: usize,
+) -> bool
+    requires { ⌜ Alike (matrix nrows ncols (now ap) (now ai) (now av)) (matrix nrows ncols (now bp) (now bi) (now bv)) ⌝ }
+    ensures { λ r. ⌜ (let a = matrix nrows ncols (now (ap .entry)) (now (ai .entry)) (now (av .entry)) in
+        let b = matrix nrows ncols (now (bp .entry)) (now (bi .entry)) (now (bv .entry)) in
+        r ≡ shortFor ncols (length (joined (λ j. chosen nrows (rowOf a b j)) ncols)) plen ilen vlen) ⌝ }
+{
+    if !no_room(ncols, ai.len() + bi.len(), plen, ilen, vlen) {
+        return false;
+    }
+    let places = count(nrows, ncols, ap, ai, av, bp, bi, bv);
+    no_room(ncols, places, plen, ilen, vlen)
 }
 
 // The sum, into outputs that have room.
@@ -117,8 +143,19 @@ pub fn sum(
     if refused != 0 {
         return refused;
     }
-    let places = count(nrows, ncols, ap, ai, av, bp, bi, bv);
-    if no_room(ncols, places, op.len(), oi.len(), ov.len()) {
+    if lacks_room(
+        nrows,
+        ncols,
+        ap,
+        ai,
+        av,
+        bp,
+        bi,
+        bv,
+        op.len(),
+        oi.len(),
+        ov.len(),
+    ) {
         return 7;
     }
     fill(nrows, ncols, ap, ai, av, bp, bi, bv, op, oi, ov);

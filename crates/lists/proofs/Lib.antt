@@ -23,3 +23,8 @@ pub mod Pushing
 pub mod Returning
 pub mod Spots
 pub mod Fronts
+pub mod Skipping
+pub mod HowMany
+pub mod Onces
+pub mod Kept
+pub mod Scratches

@@ -15,17 +15,14 @@ check-two-requires c κs = tt
 returns : tie.Need-returns
 returns c = at-check _ _ _ _ _ _ _ _ _ _ _ (c .before .before .differ .ensures) (c .before .check-two .ensures) (c .if1 .taken)
 
-count-requires : tie.Need-count-requires
-count-requires c κs = alike _ _ _ _ _ _ _ _ _ _ (stored [] [] []) (c .before .before .differ .ensures) (c .before .check-two .ensures) (c .if1 .left)
-
-no-room-requires : tie.Need-no-room-requires
-no-room-requires c κs = tt
+lacks-room-requires : tie.Need-lacks-room-requires
+lacks-room-requires c κs = alike _ _ _ _ _ _ _ _ _ _ (stored [] [] []) (c .before .before .differ .ensures) (c .before .check-two .ensures) (c .if1 .left)
 
 returns-2 : tie.Need-returns-2
-returns-2 c = at-7 _ _ _ _ _ _ _ _ _ _ _ (c .before .before .before .before .before .differ .ensures) (c .before .before .before .before .check-two .ensures) (c .before .before .before .if1 .left) (c .before .before .count .ensures) (c .before .no-room .ensures) (c .if2 .taken)
+returns-2 c = at-7 _ _ _ _ _ _ _ _ _ _ _ (c .before .before .before .before .differ .ensures) (c .before .before .before .check-two .ensures) (c .before .before .if1 .left) (c .before .lacks-room .ensures) (c .if2 .taken)
 
 fill-requires : tie.Need-fill-requires
-fill-requires c κs = ready _ _ _ _ _ _ _ _ _ _ _ (c .before .before .before .before .before .before .before .before .differ .ensures) (c .before .before .before .before .before .before .before .check-two .ensures) (c .before .before .before .before .before .before .if1 .left) (c .before .before .before .before .before .count .ensures) (c .before .before .before .before .no-room .ensures) (c .before .before .before .if2 .left)
+fill-requires c κs = ready _ _ _ _ _ _ _ _ _ _ _ (c .before .before .before .before .before .before .before .differ .ensures) (c .before .before .before .before .before .before .check-two .ensures) (c .before .before .before .before .before .if1 .left) (c .before .before .before .before .lacks-room .ensures) (c .before .before .before .if2 .left)
 
 same-length : tie.Need-same-length
 same-length c = search needs
@@ -37,7 +34,7 @@ same-length-3 : tie.Need-same-length-3
 same-length-3 c = search needs
 
 returns-3 : tie.Need-returns-3
-returns-3 c = at-end _ _ _ _ _ _ _ _ _ _ _ (c .before .before .before .before .before .before .before .before .before .before .before .before .before .before .before .differ .ensures) (c .before .before .before .before .before .before .before .before .before .before .before .before .before .before .check-two .ensures) (c .before .before .before .before .before .before .before .before .before .before .before .before .before .if1 .left) (c .before .before .before .before .before .before .before .before .before .before .before .before .count .ensures) (c .before .before .before .before .before .before .before .before .before .before .before .no-room .ensures) (c .before .before .before .before .before .before .before .before .before .before .if2 .left) (c .before .before .before .before .before .before .fill .ensures)
+returns-3 c = at-end _ _ _ _ _ _ _ _ _ _ _ (c .before .before .before .before .before .before .before .before .before .before .before .before .before .before .differ .ensures) (c .before .before .before .before .before .before .before .before .before .before .before .before .before .check-two .ensures) (c .before .before .before .before .before .before .before .before .before .before .before .before .if1 .left) (c .before .before .before .before .before .before .before .before .before .before .before .lacks-room .ensures) (c .before .before .before .before .before .before .before .before .before .before .if2 .left) (c .before .before .before .before .before .before .fill .ensures)
 
 pub sum-spec : {M : Type 1} → statement M
 sum-spec =
@@ -46,8 +43,7 @@ sum-spec =
     differ-requires
     check-two-requires
     returns
-    count-requires
-    no-room-requires
+    lacks-room-requires
     returns-2
     fill-requires
     same-length

@@ -10,18 +10,13 @@ use lib.Dec.{eqb}
 use lib.ListN.{length, getD, take, drop, length-append, take-append-drop, List·getD-append}
 use lib.Seq.{getD-at, getD-take, length-take-le}
 use borrow.Author.Tests.{eq-eqb, ne-eqb}
 use Rattle.lists.specs.Choices.{chosen, keep}
 use Rattle.lists.specs.Order.{lists, Once, no-more, one-more}
 use Rattle.lists.proofs.Bools.{eq-or-ne, not-both, or-none, and-none, and-false}
 use Rattle.lists.proofs.Chosen.{chosen-alike}
 use Rattle.lists.proofs.Members.{lists-same, lists-other, lists-append, listed-or-not}
 use Rattle.lists.proofs.Ordering.{lists-mean, member-lists}
-use Rattle.cs_columns.proofs.Merging.{lists-nowhere}
-
-pub getD-member : (l : List ℕ) (k : ℕ) → k < length l → List·Memᴰ (getD l k 0) l
-getD-member [] k h = absurd (omega arith)
-getD-member (x ∷ l) zero h = List·Memᴰ·head refl
-getD-member (x ∷ l) (suc k) h = List·Memᴰ·tail (getD-member l k (omega arith))
+use Rattle.lists.proofs.Skipping.{lists-nowhere, getD-member}
 
 -- ---- one more behind
 pub lists-snoc : (r : ℕ) (l : List ℕ) (x : ℕ) → lists r (l ++ (x ∷ [])) ≡ (lists r l || eqb r x)
