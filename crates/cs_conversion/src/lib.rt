@@ -1,3 +1,4 @@
 // Matrices from other forms, after cs_matrix_conversion.rs.
 pub mod assembly;
+mod ordered;
 mod sorting;

@@ -9,6 +9,7 @@ pub mod Scattering
 pub mod Summing
 pub mod Ordering
 pub mod Sorting
+pub mod Ordered
 pub mod Mapping
 pub mod Places
 pub mod Laying

@@ -1,0 +1,155 @@
+-- Triplets that come in order: the test that tells, and the matrix, which has the rows and values as they are given. Assumes nothing.
+use mathlib.Core.Path.{_≡_, refl, sym, _∙_}
+use mathlib.Core.Bool.{Bool, true, false, cond}
+use mathlib.Core.List.{List, [], _∷_, _++_}
+use mathlib.Core.Logic.{⊎-elim}
+use Prim.Native.Nat.{ℕ, zero, suc, _+_, _-_, _*_, _≤_, _<_, _^_}
+use native.Mathlib.Nat.{eq-or-lt-of-le}
+use native.Mathlib.Omega.{arith}
+use lib.Dec.{eqb}
+use lib.Ieee.{Float}
+use lib.ListN.{length, getD, take, drop}
+use lib.Seq.{ext-getD, length-take-le, getD-take}
+use borrow.Author.Tests.{ne-eqb, eqb-true}
+use Rattle.lists.specs.Calls.{onto, cleared}
+use Rattle.lists.specs.Keys.{ofKey, byKey}
+use Rattle.lists.specs.Order.{lists}
+use Rattle.lists.specs.Tables.{table}
+use Rattle.lists.proofs.Bools.{le-or-lt}
+use Rattle.lists.proofs.Clearing.{length-cleared, cleared-front, cleared-rest}
+use Rattle.lists.proofs.Keeping.{kept-back, kept-clears}
+use Rattle.lists.proofs.Keys.{keys-alike}
+use Rattle.lists.proofs.Ordered.{sorted-both}
+use Rattle.cs_matrix.specs.Matrix.{Stored, stored, written}
+use Rattle.cs_conversion.specs.Assembly.{Triplets, inOrder, assembled, twice}
+use Rattle.cs_conversion.specs.Sorting.{Zeros, Sound, Coded, Ordered, Blank, asGiven}
+use Rattle.cs_conversion.proofs.Rowing.{table-same}
+
+-- ---- the test: column and row of a triplet as one number
+abbrev code : List ℕ → List ℕ → ℕ → ℕ
+code rows cols k = getD cols k 0 * 65536 + getD rows k 0
+
+-- where nothing is bad, each triplet before k comes behind all earlier ones
+pub record Watching (rows cols : List ℕ) (bad k : ℕ) : Type 0 where
+  pub ask : Coded rows cols
+  pub first : 1 ≤ k
+  pub up : bad ≡ 0 → (a b : ℕ) → a < b → b < k → code rows cols a < code rows cols b
+
+pub watching-start : {rows cols : List ℕ} → Coded rows cols → Watching rows cols 0 1
+watching-start a = record { ask = a; first = omega arith; up = λ z a b h l. absurd (omega arith) }
+
+module _ {rows cols : List ℕ} {bad k : ℕ} (v : Watching rows cols bad k) (h : k < length rows) where
+  pub in-cols : k < length cols
+  in-cols = omega (arith, v .ask .alike)
+
+  fits : (q : ℕ) → q ≤ k → code rows cols q < 2 ^ 32
+  fits q l = omega (arith, v .ask .alike, v .ask .rows-below q (omega arith), v .ask .cols-below q (omega (arith, in-cols)))
+
+  pub last-fits : code rows cols (k - 1) < 2 ^ 32
+  last-fits = fits (k - 1) (omega arith)
+
+  pub here-fits : code rows cols k < 2 ^ 32
+  here-fits = fits k (omega arith)
+
+  pub watching-falls : Watching rows cols 1 (k + 1)
+  watching-falls = record { ask = v .ask; first = omega arith; up = λ z. absurd (omega arith) }
+
+  pub watching-turn : code rows cols (k - 1) < code rows cols k → Watching rows cols bad (k + 1)
+  watching-turn g =
+      record {
+        ask = v .ask;
+        first = omega arith;
+        up =
+            λ z a b l m.
+            ⊎-elim
+            (λ (e : b ≡ k).
+            ⊎-elim
+            (λ (f : a ≡ k - 1). rw (e, f) g)
+            (λ (f : a < k - 1). rw e (omega (arith, g, v .up z a (k - 1) f (omega (arith, v .first)))))
+            (eq-or-lt-of-le (omega arith)))
+            (λ (f : b < k). v .up z a b l f)
+            (eq-or-lt-of-le (omega arith));
+      }
+
+pub watching-done : {rows cols : List ℕ} {bad k : ℕ} → Watching rows cols bad k → length rows ≤ k → eqb bad 0 ≡ true → Ordered rows cols
+watching-done {rows = rows} {cols = cols} {bad = bad} v h e =
+    let z = eqb-true bad 0 e in
+    let s = v .ask in
+    record {
+      climbs = λ a b l m. omega (arith, v .up z a b l (omega (arith, s .alike)), s .rows-below a (omega (arith, s .alike)), s .rows-below b (omega (arith, s .alike)));
+      rise = λ a b l m n f. omega (arith, v .up z a b l (omega arith), f);
+    }
+
+-- ---- no place is given twice
+not-listed : (r c : ℕ) (rs cs : List ℕ) → ((k : ℕ) → k < length rs → k < length cs → getD rs k 0 ≡ r → getD cs k 0 ≡ c → ⊥) → lists c (ofKey r rs cs) ≡ false
+unfolding lists ofKey
+not-listed r c [] cs h = refl
+not-listed r c (y ∷ rs) [] h = refl
+not-listed r c (y ∷ rs) (z ∷ cs) h = go (eqb y r) refl (not-listed r c rs cs (λ k l m e f. h (suc k) (omega arith) (omega arith) e f))
+  where
+    go : (b : Bool) → eqb y r ≡ b → lists c (ofKey r rs cs) ≡ false → lists c (cond b (z ∷ ofKey r rs cs) (ofKey r rs cs)) ≡ false
+    go true e i = rw (ne-eqb c z (λ f. h 0 (omega arith) (omega arith) (eqb-true y r e) (sym f))) i
+    go false e i = i
+
+pub once : (rs cs : List ℕ) → Ordered rs cs → twice rs cs ≡ false
+unfolding twice
+once [] cs o = refl
+once (r ∷ rs) [] o = refl
+once (r ∷ rs) (c ∷ cs) o =
+    rw (not-listed r c rs cs (λ k l m f g. omega (arith, f, o .rise 0 (suc k) (omega arith) (omega arith) (omega arith) (sym g))))
+    (once rs cs
+    (record {
+      climbs = λ a b l m. o .climbs (suc a) (suc b) (omega arith) (omega arith);
+      rise = λ a b l m n f. o .rise (suc a) (suc b) (omega arith) (omega arith) (omega arith) f;
+    }))
+
+-- ---- the matrix
+module _ {t : Triplets} (s : Sound t) where
+  pub coded : Coded (t .i) (t .j)
+  coded =
+      record {
+        alike = sym (s .j-long);
+        rows-below = λ k h. omega (arith, s .i-below k h, s .rows);
+        cols-below = λ k h. omega (arith, s .j-below k h, s .cols);
+      }
+
+  module _ (o : Ordered (t .i) (t .j)) where
+    stays : {A : Type 0} (xs : List A) → length xs ≡ length (t .i) → inOrder t xs ≡ xs
+    unfolding inOrder
+    stays xs e = sorted-both (t .nrows) (t .ncols) (t .i) (t .j) xs (sym (s .j-long)) e (s .i-below) (s .j-below) (o .climbs) (o .rise)
+
+    pub as-given-is : asGiven t ≡ assembled t
+    unfolding asGiven assembled
+    as-given-is =
+        rw (stays (t .i) refl, stays (t .v) (sym (s .v-long)), table-same (t .ncols + 1) (λ c. length (byKey c (t .j) (t .j))) (λ c. length (byKey c (t .j) (t .v))) (λ c l. keys-alike c (t .j) (t .j) (t .v) (sym (s .j-long) ∙ s .v-long)))
+
+    pub written-given : (old : Stored) {new : Stored} → new ≡ written (asGiven t) old → new ≡ written (assembled t) old
+    written-given old e = rw as-given-is at e
+
+pub given-written : (t : Triplets) (old : Stored) {p i : List ℕ} {v : List Float} → p ≡ onto (old .p) (table (t .ncols + 1) (λ c. length (byKey c (t .j) (t .j)))) → i ≡ onto (old .i) (t .i) → v ≡ onto (old .v) (t .v)
+    → stored p i v ≡ written (asGiven t) old
+unfolding asGiven written
+given-written t old a b c = λ k. stored (a k) (b k) (c k)
+
+-- ---- zeros that are counted in and cleared
+blank-cleared : {m : ℕ} {w : List ℕ} → Blank m w → cleared 0 m w ≡ w
+blank-cleared {m = m} {w = w} b =
+    ext-getD 0 (cleared 0 m w) w (length-cleared 0 m w)
+    (λ k l.
+    ⊎-elim
+    (λ (h : m ≤ k). cleared-rest 0 m w k h)
+    (λ (h : k < m). cleared-front 0 m w k h ∙ sym (b .zero k h))
+    (le-or-lt m k))
+
+module _ {m : ℕ} {w : List ℕ} (b : Blank m w) where
+  pub lent-long : m ≡ length (take m w)
+  lent-long = sym (length-take-le m w (b .long))
+
+  pub lent-zeros : Zeros (take m w)
+  lent-zeros = record { zero = λ r h. getD-take m w r 0 (omega (arith, lent-long)) ∙ b .zero r (omega (arith, lent-long)) }
+
+  pub pointers-are : (d cols : List ℕ) {p : List ℕ} → p ≡ onto d (table (length (take m w)) (λ r. length (byKey r cols cols))) → p ≡ onto d (table m (λ r. length (byKey r cols cols)))
+  pointers-are d cols e = let l : length (take m w) ≡ m = sym lent-long in rw l at e
+
+  pub zeros-again : (ys : List ℕ) {w1 : List ℕ} → length ys ≡ length (take m w) → w1 ≡ cleared 0 m (ys ++ drop m w) → w1 ≡ w
+  zeros-again ys e f = f ∙ kept-clears (kept-back m ys w (b .long) (e ∙ sym lent-long)) ∙ blank-cleared b

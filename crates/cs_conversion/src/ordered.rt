@@ -1,0 +1,89 @@
+// Triplets that come in order, by column and within a column with rows rising: no place is given twice, rows and values stand
+// as the matrix has them, and only the pointers have to be found.
+ghost use mathlib.Core.Path.{_≡_};
+ghost use mathlib.Core.Bool.{true};
+ghost use Prim.Native.Nat.{_+_, _≤_};
+ghost use lib.ListN.{length};
+ghost use Rattle.lists.specs.Calls.{onto};
+ghost use Rattle.lists.specs.Keys.{byKey};
+ghost use Rattle.lists.specs.Tables.{table};
+ghost use Rattle.cs_matrix.specs.Matrix.{stored, written};
+ghost use Rattle.cs_conversion.specs.Assembly.{triplets};
+ghost use Rattle.cs_conversion.specs.Sorting.{Sound, Room, Coded, Ordered, Blank, asGiven};
+use crate::sorting::find_starts;
+use lists::clear::clear;
+
+// True only where the triplets come in order. Column and row are compared as one number; there is no early exit, so that
+// several are compared at a time.
+pub fn in_order(rows: &[u32], cols: &[u32]) -> bool
+    requires { ⌜ Coded (now rows) (now cols) ⌝ }
+    ensures { λ r. ⌜ (r ≡ true → Ordered (now (rows .entry)) (now (cols .entry))) ⌝ }
+{
+    let mut bad: u32 = 0;
+    let mut k = 1;
+    while k < rows.len() {
+        let last = cols[k - 1] * 65536 + rows[k - 1];
+        if cols[k] * 65536 + rows[k] <= last {
+            bad = 1;
+        }
+        k += 1;
+    }
+    bad == 0
+}
+
+// Where each column starts, into p. The zeros of w are counted in and are zeros again.
+fn pointers(ncols: usize, cols: &[u32], p: &mut [u32], w: &mut [u32])
+    requires { ⌜ (length (now cols) ≤ 4194304) × (ncols + 1 ≤ length (now p)) × Blank (ncols + 1) (now w) ⌝ }
+    ensures { λ _. ⌜ (now (p .exit) ≡ onto (now (p .entry)) (table (ncols + 1) (λ c. length (byKey c (now (cols .entry)) (now (cols .entry))))))
+        × (now (w .exit) ≡ now (w .entry)) ⌝ }
+{
+    let m = ncols + 1;
+    find_starts(cols, &mut w[..m], p);
+    clear(m, w);
+}
+
+// The rows into the front of i.
+fn copy(rows: &[u32], i: &mut [u32])
+    requires { ⌜ length (now rows) ≤ length (now i) ⌝ }
+    ensures { λ _. ⌜ now (i .exit) ≡ onto (now (i .entry)) (now (rows .entry)) ⌝ }
+{
+    let mut k = 0;
+    while k < rows.len() {
+        i[k] = rows[k];
+        k += 1;
+    }
+}
+
+// The values into the front of v.
+fn copy_values(vals: &[f64], v: &mut [f64])
+    requires { ⌜ length (now vals) ≤ length (now v) ⌝ }
+    ensures { λ _. ⌜ now (v .exit) ≡ onto (now (v .entry)) (now (vals .entry)) ⌝ }
+{
+    let mut at = 0;
+    while at < vals.len() {
+        v[at] = vals[at];
+        at += 1;
+    }
+}
+
+// Pointers into p, and rows and values as they are given into i and v.
+pub fn as_given(
+    nrows: usize,
+    ncols: usize,
+    irows: &[u32],
+    icols: &[u32],
+    vals: &[f64],
+    p: &mut [u32],
+    i: &mut [u32],
+    v: &mut [f64],
+    w: &mut [u32],
+)
+    requires { ⌜ (let t = triplets nrows ncols (now irows) (now icols) (now vals) in Sound t × Room t (stored (now p) (now i) (now v)) × Blank (ncols + 1) (now w)) ⌝ }
+    ensures { λ _. ⌜ (let t = triplets nrows ncols (now (irows .entry)) (now (icols .entry)) (now (vals .entry)) in
+        let old = stored (now (p .entry)) (now (i .entry)) (now (v .entry)) in
+        (stored (now (p .exit)) (now (i .exit)) (now (v .exit)) ≡ written (asGiven t) old) × (now (w .exit) ≡ now (w .entry))) ⌝ }
+{
+    pointers(ncols, icols, p, w);
+    copy(irows, i);
+    copy_values(vals, v);
+}
