@@ -29,3 +29,5 @@ pub mod HowMany
 pub mod Onces
 pub mod Kept
 pub mod Scratches
+pub mod Runs
+pub mod Positions

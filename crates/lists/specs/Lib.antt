@@ -7,3 +7,4 @@ pub mod Sums
 pub mod Calls
 pub mod Choices
 pub mod Keeping
+pub mod Runs

@@ -3,3 +3,4 @@ pub mod clear;
 pub mod numbers;
 pub mod order;
 pub mod sums;
+pub mod tight;
