@@ -13,14 +13,18 @@ use lib.Seq.{getD-set-same, getD-set-other, take-suc, take-all}
 use borrow.Author.Tests.{le-leb, lt-leb, lt-ltb, le-ltb}
 use Rattle.lists.specs.Calls.{onto, none}
 use Rattle.lists.specs.Folds.{along, over}
+use Rattle.lists.specs.Order.{rises}
+use Rattle.lists.specs.Parts.{part, placed}
+use Rattle.lists.specs.Runs.{tight, zipped}
 use Rattle.lists.proofs.Chosen.{map-more}
 use Rattle.lists.proofs.Folds.{Along, along-start, along-turn, along-end, Over, over-start, over-turn, over-end}
 use Rattle.lists.proofs.Laying.{onto-whole}
-use Rattle.lists.proofs.Parts.{onto-none, onto-more, length-onto}
+use Rattle.lists.proofs.Parts.{onto-none, onto-more, length-onto, length-part}
+use Rattle.lists.proofs.Runs.{tight-within, over-tight}
 use Rattle.cs_left.specs.Left.{putAt, quotients}
 use Rattle.cs_left.specs.Steps.{plusAt, zeroAt, Entries, Places}
 
--- ---- `load` and `scatter_add`: rows and values side by side
+-- ---- `load` and `add_rows`: rows and values side by side
 pub record Passing (f : ℕ → Float → List Float → List Float) (rows : List ℕ) (vals x₀ x : List Float) (q : ℕ) : Type 0 where
   pub asks : Entries (length x₀) rows vals
   pub long : length x ≡ length x₀
@@ -63,6 +67,18 @@ pub scatter-turn : (f : Float) {rows : List ℕ} {vals x₀ x : List Float} {q :
     → Passing (plusAt f) rows vals x₀ (set x z (add binary64 (getD x z nan) (mul binary64 (getD vals q nan) f))) (q + 1)
 unfolding plusAt
 scatter-turn f {x = x} w h {z} e = passing-turn w h e (length-set x z _) refl
+
+-- ---- `scatter_add`: rows that are a run are one part of x
+module _ {rows : List ℕ} {vals : List Float} (x : List Float) (a : Entries (length x) rows vals × (rises rows ≡ true)) (t : tight rows ≡ true) {r : ℕ} (e : r ≡ getD rows 0 0) where
+  pub run-within : r + length vals ≤ length x
+  run-within = omega (arith, tight-within rows (a .1) t (length x) (a .0 .below), a .0 .alike)
+
+  pub run-alike : length vals ≡ length (part r (r + length vals) x)
+  run-alike = sym (length-part r (r + length vals) x run-within ∙ omega arith)
+
+  pub run-adds : (f : Float) {y : List Float} → y ≡ zipped (λ a v. add binary64 a (mul binary64 v f)) (part r (r + length vals) x) vals → placed r (r + length vals) x y ≡ over (plusAt f) rows vals x
+  unfolding plusAt
+  run-adds f = over-tight (λ a v. add binary64 a (mul binary64 v f)) nan (plusAt f) rows (a .1) t r (r + length vals) e (λ z v y g. refl) vals (a .0 .alike) x refl run-within
 
 -- ---- `divide`
 pub record Dividing (d : Float) (rows : List ℕ) (vals₀ x₀ vals x : List Float) (q : ℕ) : Type 0 where

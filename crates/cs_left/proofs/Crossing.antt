@@ -12,9 +12,11 @@ use lib.ListN.{length, getD, set, take, drop, length-set}
 use lib.Seq.{getD-set-other}
 use borrow.Author.Tests.{le-leb, lt-leb, lt-ltb, le-ltb, eq-eqb, ne-eqb}
 use Rattle.lists.specs.Folds.{along, over}
+use Rattle.lists.specs.Order.{rises}
 use Rattle.lists.specs.Parts.{part}
 use Rattle.lists.proofs.Folds.{Along, along-start, along-turn, along-end}
 use Rattle.lists.proofs.Parts.{length-part, getD-part}
+use Rattle.lists.proofs.Runs.{rises-drop}
 use Rattle.cs_matrix.specs.Matrix.{column, valueAt}
 use Rattle.cs_matrix.proofs.Values.{value-there}
 use Rattle.cs_left.specs.Left.{addAt, addColumn}
@@ -63,7 +65,7 @@ module _ {k : ℕ} {lp li : List ℕ} {lx : List Float} {next : List ℕ} {n j :
     pub crossing-fits : s + 1 ≤ 4194304
     crossing-fits = omega (arith, w .inside, w .few)
 
-    pub crossing-entries : Entries n (part s e li) (part s e lx)
+    crossing-entries : Entries n (part s e li) (part s e lx)
     crossing-entries =
         let l = length-part s e li crossing-li in
         record {
@@ -79,6 +81,9 @@ module _ {k : ℕ} {lp li : List ℕ} {lx : List Float} {next : List ℕ} {n j :
     rows-from : part s e li ≡ drop (w .at .m) rows
     unfolding column
     rows-from = rw (place-is, b) (part-drop (getD lp j 0) (w .at .m) (getD lp (j + 1) 0) li)
+
+    pub crossing-asks : Entries n (part s e li) (part s e lx) × (rises (part s e li) ≡ true)
+    crossing-asks = (crossing-entries, rw rows-from (rises-drop (w .at .m) rows (w .rise)))
 
     vals-from : part s e lx ≡ drop (w .at .m) vals
     unfolding column
@@ -136,6 +141,7 @@ module _ {k : ℕ} {us lp li : List ℕ} {lx : List Float} {next₀ : List ℕ} 
             at = rw n (c .at);
             inside = rw n (c .inside);
             here = rw n (c .here);
+            rise = c .rise;
             below = rw (w .x-long) (c .below);
           }
 

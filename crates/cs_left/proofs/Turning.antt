@@ -17,7 +17,7 @@ use Rattle.lists.specs.Order.{lists}
 use Rattle.lists.specs.Parts.{part, placed}
 use Rattle.lists.proofs.Bools.{le-or-lt}
 use Rattle.lists.proofs.Members.{listed-or-not}
-use Rattle.lists.proofs.Ordering.{rising-once}
+use Rattle.lists.proofs.Ordering.{rising-once, rising-rises}
 use Rattle.lists.proofs.Parts.{length-part, length-placed}
 use Rattle.lists.proofs.Places.{placed-after}
 use Rattle.cs_matrix.specs.Matrix.{pattern, matrix, column, Valid}
@@ -201,6 +201,7 @@ module _ {n : ℕ} {p i : List ℕ} {v : List Float} {up ui lp li : List ℕ} {r
           at = rw (l-column S b) N;
           inside = omega (arith, N .is, l-size S b, c .0);
           here = ap (λ (q : ℕ). getD li q 0) (N .is) ∙ sym (getD-column lp j li (N .m) 0 d) ∙ ap (λ (l : List ℕ). getD l (N .m) 0) (l-column S b) ∙ c .1;
+          rise = rw (l-column S b) (rising-rises (S .promised .rise j));
           below = λ q f o.
               let y : q - getD lp j 0 < getD lp (j + 1) 0 - getD lp j 0 = omega arith in
               let u : q ≡ getD lp j 0 + (q - getD lp j 0) = omega arith in

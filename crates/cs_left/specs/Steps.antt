@@ -69,6 +69,7 @@ pub record Crossing (k : ℕ) (lp li : List ℕ) (lx : List Float) (next : List 
   pub at : Next k (column lp j li) (getD lp j 0) (getD next j 0)
   pub inside : getD next j 0 < getD lp (j + 1) 0
   pub here : getD li (getD next j 0) 0 ≡ k
+  pub rise : rises (column lp j li) ≡ true
   pub below : (q : ℕ) → q < getD lp (j + 1) 0 → getD lp j 0 ≤ q → getD li q 0 < m
 
 -- so have all the columns of L that U's column k names

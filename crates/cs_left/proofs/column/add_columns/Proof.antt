@@ -2,7 +2,7 @@ use mathlib.Core.Logic.{⊎-elim}
 use native.Mathlib.Omega.{arith}
 use lib.ListN.{length}
 use Prim.Native.Nat.{_-_}
-use Rattle.cs_left.proofs.Crossing.{Adding, adding-start, adding-here, adding-turn, adding-pass, adding-end, crossing-order, crossing-li, crossing-lx, crossing-place, crossing-fits, crossing-entries}
+use Rattle.cs_left.proofs.Crossing.{Adding, adding-start, adding-here, adding-turn, adding-pass, adding-end, crossing-order, crossing-li, crossing-lx, crossing-place, crossing-fits, crossing-asks}
 use borrow.Author.Needs.{needs}
 use Rattle.cs_left.proofs.column.add_columns.Statement.{statement}
 use Rattle.cs_left.proofs.column.add_columns.Tie as tie
@@ -103,7 +103,7 @@ shared-slice-read-scatter-add c = crossing-place (adding-here (c .before .before
 
 -- src/column.rt:49:13
 scatter-add-requires : tie.Need-scatter-add-requires Inv-loop μ-loop
-scatter-add-requires c κs = crossing-entries (adding-here (c .before .before .before .before .before .before .before .before .before .before .before .before .loop .inv) (c .before .before .before .before .before .before .before .before .before .before .before .loop-test .taken) (c .before .before .before .before .before .before .before .before .before .wide .ensures .0) (c .before .before .before .before .before .before .before .before .if1 .taken)) (c .before .before .before .before .before .before .wide2 .ensures .0) (c .before .before .before .before .wide3 .ensures .0)
+scatter-add-requires c κs = crossing-asks (adding-here (c .before .before .before .before .before .before .before .before .before .before .before .before .loop .inv) (c .before .before .before .before .before .before .before .before .before .before .before .loop-test .taken) (c .before .before .before .before .before .before .before .before .before .wide .ensures .0) (c .before .before .before .before .before .before .before .before .if1 .taken)) (c .before .before .before .before .before .before .wide2 .ensures .0) (c .before .before .before .before .wide3 .ensures .0)
 
 -- src/column.rt:50:24
 add-next : tie.Need-add-next Inv-loop μ-loop

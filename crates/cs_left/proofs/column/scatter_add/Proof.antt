@@ -1,99 +1,67 @@
-use native.Mathlib.Omega.{arith}
-use lib.ListN.{length}
-use Prim.Native.Nat.{_-_}
-use Rattle.cs_left.proofs.Columns.{Passing, passing-start, passing-row, passing-value, passing-end, scatter-turn}
-use Rattle.cs_left.specs.Steps.{plusAt}
+-- `scatter_add`: the run of proofs/Columns.antt, or `add_rows`. Assumes nothing.
+use mathlib.Core.Path.{sym, _∙_}
 use borrow.Author.Needs.{needs}
+use Rattle.cs_left.proofs.Columns.{run-within, run-alike, run-adds}
 use Rattle.cs_left.proofs.column.scatter_add.Statement.{statement}
 use Rattle.cs_left.proofs.column.scatter_add.Tie as tie
-use Rattle.cs_left.proofs.column.scatter_add.Reads as reads
-use Rattle.cs_left.proofs.column.scatter_add.Lts as lts
-use Rattle.lists.proofs.numbers.wide.Reads as wide-reads
 
-abbrev Inv-loop : tie.InvT-loop
-Inv-loop rows vals f x₀ q₀ x q = Passing (plusAt f) rows vals x₀ x q
+tight-requires : tie.Need-tight-requires
+tight-requires c κs = search needs
 
-abbrev μ-loop : tie.MeasureT-loop
-μ-loop rows vals f x₀ q₀ x q = length rows - q
-
--- src/column.rt:30:5
-loop-holds : tie.Need-loop-holds Inv-loop μ-loop
-loop-holds c = passing-start _ (c .before .before .before .pre)
-
--- src/column.rt:31:22
-mul-wide : tie.Need-mul-wide Inv-loop μ-loop
-mul-wide c = search needs
-
--- src/column.rt:31:22
-shared-slice-read-wide : tie.Need-shared-slice-read-wide Inv-loop μ-loop
+shared-slice-read-wide : tie.Need-shared-slice-read-wide
 shared-slice-read-wide c = search needs
 
--- src/column.rt:31:13
-wide-requires : tie.Need-wide-requires Inv-loop μ-loop
+wide-requires : tie.Need-wide-requires
 wide-requires c κs = search needs
 
--- src/column.rt:32:16
-mul-x : tie.Need-mul-x Inv-loop μ-loop
-mul-x c = search needs
+add-add-run : tie.Need-add-add-run
+add-add-run c = search needs
 
--- src/column.rt:32:16
-slice-read-x : tie.Need-slice-read-x Inv-loop μ-loop
-slice-read-x c = passing-row (c .before .before .before .before .loop .inv) (c .before .before .before .loop-test .taken) (c .before .wide .ensures .0)
+mul-add-run : tie.Need-mul-add-run
+mul-add-run c = search needs
 
--- src/column.rt:32:23
-mul-x-2 : tie.Need-mul-x-2 Inv-loop μ-loop
-mul-x-2 c = search needs
+sub-add-run : tie.Need-sub-add-run
+sub-add-run c = search needs
 
--- src/column.rt:32:23
-shared-slice-read-x : tie.Need-shared-slice-read-x Inv-loop μ-loop
-shared-slice-read-x c = passing-value (c .before .before .before .before .before .loop .inv) (c .before .before .before .before .loop-test .taken)
+part-add-run-start : tie.Need-part-add-run-start
+part-add-run-start c = search needs
 
--- src/column.rt:32:9
-mul-x-3 : tie.Need-mul-x-3 Inv-loop μ-loop
-mul-x-3 c = search needs
+part-add-run-end : tie.Need-part-add-run-end
+part-add-run-end c = run-within (c .before .before .before .before .before .before .before .before .args .x .now) (c .before .before .before .before .before .before .before .before .pre) (sym (c .before .before .before .tight .ensures) ∙ c .before .before .if2 .taken) (c .wide .ensures .0)
 
--- src/column.rt:32:9
-slice-write-x : tie.Need-slice-write-x Inv-loop μ-loop
-slice-write-x c = passing-row (c .before .before .before .before .before .loop .inv) (c .before .before .before .before .loop-test .taken) (c .before .before .wide .ensures .0)
+add-run-requires : tie.Need-add-run-requires
+add-run-requires c κs = run-alike (c .before .before .before .before .before .before .before .before .before .args .x .now) (c .before .before .before .before .before .before .before .before .before .pre) (sym (c .before .before .before .before .tight .ensures) ∙ c .before .before .before .if2 .taken) (c .before .wide .ensures .0)
 
--- src/column.rt:33:9
-add-q : tie.Need-add-q Inv-loop μ-loop
-add-q c = search needs
+same-length : tie.Need-same-length
+same-length c = search needs
 
--- src/column.rt:30:5
-loop-less : tie.Need-loop-less Inv-loop μ-loop
-loop-less c = search needs
+returns : tie.Need-returns
+returns c = run-adds (c .before .before .before .before .before .before .before .before .before .before .before .before .args .x .now) (c .before .before .before .before .before .before .before .before .before .before .before .before .pre) (sym (c .before .before .before .before .before .before .before .tight .ensures) ∙ c .before .before .before .before .before .before .if2 .taken) (c .before .before .before .before .wide .ensures .0) _ (c .before .before .add-run .ensures)
 
--- src/column.rt:30:5
-loop-again : tie.Need-loop-again Inv-loop μ-loop
-loop-again c = scatter-turn _ (c .before .before .before .before .before .loop .inv) (c .before .before .before .before .loop-test .taken) (c .before .before .wide .ensures .0)
+add-rows-requires : tie.Need-add-rows-requires
+add-rows-requires c κs = c .before .before .before .before .before .pre .0
 
--- src/column.rt:25:1
-same-length : tie.Need-same-length Inv-loop μ-loop
-same-length c = c .before .loop .inv .long
+same-length-2 : tie.Need-same-length-2
+same-length-2 c = search needs
 
--- src/column.rt:25:1
-returns : tie.Need-returns Inv-loop μ-loop
-returns c = passing-end (c .before .loop .inv) (c .loop-test .left)
+returns-2 : tie.Need-returns-2
+returns-2 c = c .before .before .add-rows .ensures
 
 pub scatter-add-spec : {M : Type 1} → statement M
 scatter-add-spec =
     tie.close
     (tie.spec
-    Inv-loop
-    μ-loop
-    loop-holds
-    mul-wide
+    tight-requires
     shared-slice-read-wide
     wide-requires
-    mul-x
-    slice-read-x
-    mul-x-2
-    shared-slice-read-x
-    mul-x-3
-    slice-write-x
-    add-q
-    loop-less
-    loop-again
+    add-add-run
+    mul-add-run
+    sub-add-run
+    part-add-run-start
+    part-add-run-end
+    add-run-requires
     same-length
-    returns)
+    returns
+    add-rows-requires
+    same-length-2
+    returns-2)
