@@ -19,6 +19,7 @@ use Rattle.lists.proofs.Folds.{Along, along-start, along-turn, along-end}
 use Rattle.lists.proofs.Members.{listed-or-not}
 use Rattle.lists.proofs.Parts.{left-at, left-none, length-part, getD-part}
 use Rattle.lists.proofs.Spots.{member-at, once-behind}
+use Rattle.lists.proofs.Runs.{rises-part}
 use Rattle.cs_matrix.specs.Matrix.{column, valueAt}
 use Rattle.cs_tree.specs.Least.{In}
 use Rattle.cs_up.specs.Steps.{way, takeAt, held, goes, Takes, Reads, Cut, Lies, Rows, Rowed}
@@ -35,6 +36,7 @@ module _ {j s e : ℕ} {li : List ℕ} {lx x : List Float} (r : Reads j s e li l
       record {
         alike = length-part (s + 1) e lx b ∙ sym a;
         below = λ z h. rw (getD-part (s + 1) e li z 0 (omega arith), length-set x j y) (r .below (s + 1 + z) (omega arith) (omega arith));
+        rise = rises-part (s + 1) e li (r .rows) (λ z q l m o. r .rise z q (omega arith) m o);
       }
 
 -- the pointers climb
@@ -197,6 +199,7 @@ module _ {k : ℕ} {u lp li : List ℕ} {lx₀ : List Float} {next₀ : List ℕ
         room = omega (arith, at-e .0, hi-in, lens .0);
         here = omega (arith, lens .2, a .here);
         below = λ z l m. omega (arith, between z l m .1, a .here, lens .2);
+        rise = λ y z l m o. a .lies .rise j y z (omega (arith, a .here)) (omega arith) m (omega (arith, at-e .0));
       }
 
       -- another column lies elsewhere

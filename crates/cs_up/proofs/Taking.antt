@@ -1,4 +1,5 @@
 -- `take_rows`: rows of a column of L taken from x, and that the definition's tests leave out the diagonal alone. Assumes nothing.
+use mathlib.Core.Bool.{true}
 use mathlib.Core.List.{List, [], _∷_}
 use mathlib.Core.Path.{_≡_, refl, sym, ap, _∙_}
 use Prim.Native.Nat.{ℕ, suc, _+_, _-_, _≤_, _<_}
@@ -8,10 +9,12 @@ use lib.ListN.{length, getD, set, take, length-set}
 use lib.Seq.{getD-set-other}
 use borrow.Author.Tests.{lt-ltb, le-ltb, eq-eqb}
 use Rattle.lists.specs.Folds.{over}
-use Rattle.lists.specs.Parts.{part}
+use Rattle.lists.specs.Parts.{part, placed}
+use Rattle.lists.specs.Runs.{tight, zipped}
 use Rattle.lists.proofs.Folds.{Over, over-start, over-turn, over-end}
 use Rattle.lists.proofs.Parts.{length-part, getD-part}
 use Rattle.lists.proofs.Pushing.{part-first, part-shorter}
+use Rattle.lists.proofs.Runs.{tight-within, over-tight}
 use Rattle.cs_matrix.specs.Matrix.{valueAt}
 use Rattle.cs_up.specs.Steps.{takeAt, Takes}
 use Rattle.cs_up.specs.Up.{subAt}
@@ -40,6 +43,18 @@ module _ {t : Float} {rows : List ℕ} {vals x₀ x : List Float} {z : ℕ} (w :
 
   pub taking-done : length rows ≤ z → x ≡ over (takeAt t) rows vals x₀
   taking-done g = over-end (takeAt t) rows vals (w .rest) g
+
+-- ---- rows that are a run are one part of x
+module _ {rows : List ℕ} {vals x : List Float} (a : Takes rows vals x) (g : tight rows ≡ true) {r : ℕ} (e : r ≡ getD rows 0 0) where
+  pub run-within : r + length vals ≤ length x
+  run-within = omega (arith, tight-within rows (a .rise) g (length x) (a .below), a .alike)
+
+  pub run-alike : length vals ≡ length (part r (r + length vals) x)
+  run-alike = sym (length-part r (r + length vals) x run-within ∙ omega arith)
+
+  pub run-takes : (t : Float) {y : List Float} → y ≡ zipped (λ a v. sub binary64 a (mul binary64 v t)) (part r (r + length vals) x) vals → placed r (r + length vals) x y ≡ over (takeAt t) rows vals x
+  unfolding takeAt
+  run-takes t = over-tight (λ a v. sub binary64 a (mul binary64 v t)) nan (takeAt t) rows (a .rise) g r (r + length vals) e (λ z v y h. refl) vals (a .alike) x refl run-within
 
 -- ---- what it leaves
 pub length-taken : (t : Float) (rows : List ℕ) (vals x : List Float) → length (over (takeAt t) rows vals x) ≡ length x

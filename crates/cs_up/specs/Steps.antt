@@ -50,6 +50,7 @@ pub record Loads (k : ℕ) (rows : List ℕ) (vals x : List Float) : Type 0 wher
 pub record Takes (rows : List ℕ) (vals x : List Float) : Type 0 where
   pub alike : length vals ≡ length rows
   pub below : (z : ℕ) → z < length rows → getD rows z 0 < length x
+  pub rise : rises rows ≡ true
 
 -- column j of L from s to e, the next value of which goes to e
 pub record Reads (j s e : ℕ) (li : List ℕ) (lx x : List Float) : Type 0 where
@@ -58,6 +59,7 @@ pub record Reads (j s e : ℕ) (li : List ℕ) (lx x : List Float) : Type 0 wher
   pub room : e < length lx
   pub here : j < length x
   pub below : (z : ℕ) → s < z → z < e → getD li z 0 < length x
+  pub rise : (y z : ℕ) → s < y → y < z → z < e → getD li y 0 < getD li z 0
 
 -- ---- what holds between them
 -- the rows of a column of L from lo to hi: before mid they are below b, from mid on they are not

@@ -1,13 +1,15 @@
 // Row k of L, column by column.
 ghost use mathlib.Core.Path.{_≡_};
 ghost use Prim.Native.Nat.{_+_};
-ghost use lib.Ieee.{nan, binary64, div};
-ghost use lib.ListN.{getD, set};
+ghost use lib.Ieee.{nan, binary64, sub, mul, div};
+ghost use lib.ListN.{length, getD, set};
 ghost use Rattle.lists.specs.Calls.{none};
 ghost use Rattle.lists.specs.Folds.{over};
 ghost use Rattle.lists.specs.Parts.{part};
+ghost use Rattle.lists.specs.Runs.{zipped};
 ghost use Rattle.cs_up.specs.Steps.{takeAt, held, goes, way, Takes, Reads, Rows, Rowed};
 use lists::numbers::wide;
+use lists::tight::tight;
 
 // x(r) = x(r) - (value times t) for each of the rows r.
 fn take_rows(t: f64, rows: &[u32], vals: &[f64], x: &mut [f64])
@@ -22,6 +24,33 @@ fn take_rows(t: f64, rows: &[u32], vals: &[f64], x: &mut [f64])
     }
 }
 
+// The same, place by place.
+fn take_run(t: f64, vals: &[f64], x: &mut [f64])
+    requires { ⌜ length (now vals) ≡ length (now x) ⌝ }
+    ensures { λ _. ⌜ now (x .exit) ≡ zipped (λ a v. sub binary64 a (mul binary64 v t)) (now (x .entry)) (now (vals .entry)) ⌝ }
+{
+    let mut z = 0;
+    while z < vals.len() {
+        x[z] = x[z] - vals[z] * t;
+        z += 1;
+    }
+}
+
+// The same as take_rows: a run is one part of x. Few rows gain nothing by it.
+fn take_column(t: f64, rows: &[u32], vals: &[f64], x: &mut [f64])
+    requires { ⌜ Takes (now rows) (now vals) (now x) ⌝ }
+    ensures { λ _. ⌜ now (x .exit) ≡ over (takeAt t) (now (rows .entry)) (now (vals .entry)) (now (x .entry)) ⌝ }
+{
+    if rows.len() > 7 {
+        if tight(rows) {
+            let first = wide(rows[0]);
+            take_run(t, vals, &mut x[first..first + vals.len()]);
+            return;
+        }
+    }
+    take_rows(t, rows, vals, x);
+}
+
 // The value t of row k in column j, which lies from s to e with its diagonal first; it is put at e.
 fn row_at(j: usize, s: usize, e: usize, li: &[u32], lx: &mut [f64], x: &mut [f64]) -> f64
     requires { ⌜ Reads j s e (now li) (now lx) (now x) ⌝ }
@@ -32,7 +61,7 @@ fn row_at(j: usize, s: usize, e: usize, li: &[u32], lx: &mut [f64], x: &mut [f64
     let t = x[j] / lx[s];
     x[j] = 0.0;
     let a = s + 1;
-    take_rows(t, &li[a..e], &lx[a..e], x);
+    take_column(t, &li[a..e], &lx[a..e], x);
     lx[e] = t;
     t
 }

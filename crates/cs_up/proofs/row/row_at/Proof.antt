@@ -27,32 +27,32 @@ slice-write-x c = search needs
 add-a : tie.Need-add-a
 add-a c = search needs
 
-mul-take-rows : tie.Need-mul-take-rows
-mul-take-rows c = search needs
+mul-take-column : tie.Need-mul-take-column
+mul-take-column c = search needs
 
-sub-take-rows : tie.Need-sub-take-rows
-sub-take-rows c = search needs
+sub-take-column : tie.Need-sub-take-column
+sub-take-column c = search needs
 
-part-take-rows-start : tie.Need-part-take-rows-start
-part-take-rows-start c = search needs
+part-take-column-start : tie.Need-part-take-column-start
+part-take-column-start c = search needs
 
-part-take-rows-end : tie.Need-part-take-rows-end
-part-take-rows-end c = search needs
+part-take-column-end : tie.Need-part-take-column-end
+part-take-column-end c = search needs
 
-mul-take-rows-2 : tie.Need-mul-take-rows-2
-mul-take-rows-2 c = search needs
+mul-take-column-2 : tie.Need-mul-take-column-2
+mul-take-column-2 c = search needs
 
-sub-take-rows-2 : tie.Need-sub-take-rows-2
-sub-take-rows-2 c = search needs
+sub-take-column-2 : tie.Need-sub-take-column-2
+sub-take-column-2 c = search needs
 
-part-take-rows-start-2 : tie.Need-part-take-rows-start-2
-part-take-rows-start-2 c = search needs
+part-take-column-start-2 : tie.Need-part-take-column-start-2
+part-take-column-start-2 c = search needs
 
-part-take-rows-end-2 : tie.Need-part-take-rows-end-2
-part-take-rows-end-2 c = search needs
+part-take-column-end-2 : tie.Need-part-take-column-end-2
+part-take-column-end-2 c = search needs
 
-take-rows-requires : tie.Need-take-rows-requires
-take-rows-requires c κs = reads-takes (c .before .before .before .before .before .before .before .before .before .pre) _
+take-column-requires : tie.Need-take-column-requires
+take-column-requires c κs = reads-takes (c .before .before .before .before .before .before .before .before .before .pre) _
 
 mul-lx : tie.Need-mul-lx
 mul-lx c = search needs
@@ -64,10 +64,10 @@ same-length : tie.Need-same-length
 same-length c = search needs
 
 same-length-2 : tie.Need-same-length-2
-same-length-2 c = c .before .before .take-rows .kept .1 .1 .1 .0 ∙ simp length-set
+same-length-2 c = c .before .before .take-column .kept .1 .1 .1 .0 ∙ simp length-set
 
 returns : tie.Need-returns
-returns c = (refl, refl, c .before .before .take-rows .ensures)
+returns c = (refl, refl, c .before .before .take-column .ensures)
 
 pub row-at-spec : {M : Type 1} → statement M
 row-at-spec =
@@ -80,15 +80,15 @@ row-at-spec =
     mul-x
     slice-write-x
     add-a
-    mul-take-rows
-    sub-take-rows
-    part-take-rows-start
-    part-take-rows-end
-    mul-take-rows-2
-    sub-take-rows-2
-    part-take-rows-start-2
-    part-take-rows-end-2
-    take-rows-requires
+    mul-take-column
+    sub-take-column
+    part-take-column-start
+    part-take-column-end
+    mul-take-column-2
+    sub-take-column-2
+    part-take-column-start-2
+    part-take-column-end-2
+    take-column-requires
     mul-lx
     slice-write-lx
     same-length
