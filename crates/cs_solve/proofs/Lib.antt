@@ -3,3 +3,4 @@ pub mod Diagonals
 pub mod Steps
 pub mod Turns
 pub mod Ways
+pub mod Runs

@@ -1,11 +1,13 @@
 -- The loops over the columns. Assumes nothing.
 use mathlib.Core.Path.{_≡_, refl, ap, _∙_}
+use mathlib.Core.Bool.{true}
 use mathlib.Core.List.{List}
 use Prim.Native.Nat.{ℕ, _+_, _-_, _≤_, _<_}
 use native.Mathlib.Omega.{arith}
 use lib.Ieee.{Float}
 use lib.ListN.{length}
 use Rattle.lists.specs.Folds.{turns}
+use Rattle.lists.specs.Order.{rises}
 use Rattle.lists.specs.Parts.{part}
 use Rattle.lists.proofs.Folds.{turns-none, turns-more, turns-end, Falls, falls-start, falls-turn, falls-end}
 use Rattle.cs_matrix.specs.Matrix.{matrix, Valid, valueAt}
@@ -25,17 +27,23 @@ pub record Forwarding (n : ℕ) (p i : List ℕ) (v b₀ b : List Float) (j : �
   pub valid : Valid (matrix n n p i v)
   pub within : j ≤ n
   pub long : length b ≡ length b₀
+  pub whole : length b₀ ≡ n
   pub is : b ≡ turns j (forwardColumn (matrix n n p i v)) b₀
 
-pub forwarding-start : {n : ℕ} {p i : List ℕ} {v : List Float} → Valid (matrix n n p i v) → (b : List Float) → Forwarding n p i v b b 0
-forwarding-start a b = record { valid = a; within = omega arith; long = refl; is = turns-none _ b }
+pub forwarding-start : {n : ℕ} {p i : List ℕ} {v : List Float} → Valid (matrix n n p i v) → {b : List Float} → length b ≡ n → Forwarding n p i v b b 0
+forwarding-start a {b} l = record { valid = a; within = omega arith; long = refl; whole = l; is = turns-none _ b }
 
 module _ {n : ℕ} {p i : List ℕ} {v b₀ b : List Float} {j : ℕ} (w : Forwarding n p i v b₀ b j) where
+  pub forwarding-asked : {s e : ℕ} → j < n → Handed p i v j s e → Column j (length b) (part s e i) (part s e v) × (rises (part s e i) ≡ true)
+  forwarding-asked g h =
+      let l : length b ≡ n = w .long ∙ w .whole in
+      (record { alike = part-alike (w .valid) h; below = λ q f. rw l (part-below (w .valid) h q f); here = omega arith }, rw (h .rows) (w .valid .pattern .rise j g))
+
   pub forwarding-turn : {s e : ℕ} {d : Float} {b' : List Float} → j < n → Handed p i v j s e → d ≡ valueAt j (part s e i) (part s e v)
       → b' ≡ forwardAt j d (part s e i) (part s e v) b → Forwarding n p i v b₀ b' (j + 1)
   forwarding-turn g h q e =
       let f = forward-step n n b h q e in
-      record { valid = w .valid; within = omega arith; long = ap length f ∙ length-forwardColumn (matrix n n p i v) j b ∙ w .long; is = f ∙ turns-more j (forwardColumn (matrix n n p i v)) b₀ (w .is) }
+      record { valid = w .valid; within = omega arith; long = ap length f ∙ length-forwardColumn (matrix n n p i v) j b ∙ w .long; whole = w .whole; is = f ∙ turns-more j (forwardColumn (matrix n n p i v)) b₀ (w .is) }
 
   pub forwarding-end : n ≤ j → b ≡ forward (matrix n n p i v) b₀
   unfolding forward

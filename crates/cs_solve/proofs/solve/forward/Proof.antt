@@ -2,7 +2,7 @@
 use Prim.Native.Nat.{_-_}
 use native.Mathlib.Omega.{arith}
 use borrow.Author.Needs.{needs}
-use Rattle.cs_solve.proofs.Turns.{Forwarding, forwarding-start, forwarding-turn, forwarding-end}
+use Rattle.cs_solve.proofs.Turns.{Forwarding, forwarding-start, forwarding-asked, forwarding-turn, forwarding-end}
 use Rattle.cs_solve.proofs.Columns.{handed}
 use Rattle.cs_solve.proofs.solve.forward.Statement.{statement}
 use Rattle.cs_solve.proofs.solve.forward.Tie as tie
@@ -14,7 +14,7 @@ abbrev μ-loop : tie.MeasureT-loop
 μ-loop n p i v b₀ j₀ b j = n - j
 
 loop-holds : tie.Need-loop-holds Inv-loop μ-loop
-loop-holds c = forwarding-start (c .before .before .before .before .pre) _
+loop-holds c = forwarding-start (c .before .before .before .before .pre .0) (c .before .before .before .before .pre .1)
 
 mul-wide : tie.Need-mul-wide Inv-loop μ-loop
 mul-wide c = search needs
@@ -41,55 +41,55 @@ mul-value-at : tie.Need-mul-value-at Inv-loop μ-loop
 mul-value-at c = search needs
 
 sub-value-at : tie.Need-sub-value-at Inv-loop μ-loop
-sub-value-at c = (handed (c .before .before .before .before .before .before .before .before .before .before .pre) (c .before .before .before .before .loop-test .taken) (c .before .before .wide .ensures .0) (c .wide2 .ensures .0)) .order
+sub-value-at c = (handed (c .before .before .before .before .before .before .before .before .before .before .pre .0) (c .before .before .before .before .loop-test .taken) (c .before .before .wide .ensures .0) (c .wide2 .ensures .0)) .order
 
 part-value-at-start : tie.Need-part-value-at-start Inv-loop μ-loop
-part-value-at-start c = (handed (c .before .before .before .before .before .before .before .before .before .before .pre) (c .before .before .before .before .loop-test .taken) (c .before .before .wide .ensures .0) (c .wide2 .ensures .0)) .order
+part-value-at-start c = (handed (c .before .before .before .before .before .before .before .before .before .before .pre .0) (c .before .before .before .before .loop-test .taken) (c .before .before .wide .ensures .0) (c .wide2 .ensures .0)) .order
 
 part-value-at-end : tie.Need-part-value-at-end Inv-loop μ-loop
-part-value-at-end c = (handed (c .before .before .before .before .before .before .before .before .before .before .pre) (c .before .before .before .before .loop-test .taken) (c .before .before .wide .ensures .0) (c .wide2 .ensures .0)) .inside
+part-value-at-end c = (handed (c .before .before .before .before .before .before .before .before .before .before .pre .0) (c .before .before .before .before .loop-test .taken) (c .before .before .wide .ensures .0) (c .wide2 .ensures .0)) .inside
 
 mul-value-at-2 : tie.Need-mul-value-at-2 Inv-loop μ-loop
 mul-value-at-2 c = search needs
 
 sub-value-at-2 : tie.Need-sub-value-at-2 Inv-loop μ-loop
-sub-value-at-2 c = (handed (c .before .before .before .before .before .before .before .before .before .before .before .pre) (c .before .before .before .before .before .loop-test .taken) (c .before .before .before .wide .ensures .0) (c .before .wide2 .ensures .0)) .order
+sub-value-at-2 c = (handed (c .before .before .before .before .before .before .before .before .before .before .before .pre .0) (c .before .before .before .before .before .loop-test .taken) (c .before .before .before .wide .ensures .0) (c .before .wide2 .ensures .0)) .order
 
 part-value-at-start-2 : tie.Need-part-value-at-start-2 Inv-loop μ-loop
-part-value-at-start-2 c = (handed (c .before .before .before .before .before .before .before .before .before .before .before .pre) (c .before .before .before .before .before .loop-test .taken) (c .before .before .before .wide .ensures .0) (c .before .wide2 .ensures .0)) .order
+part-value-at-start-2 c = (handed (c .before .before .before .before .before .before .before .before .before .before .before .pre .0) (c .before .before .before .before .before .loop-test .taken) (c .before .before .before .wide .ensures .0) (c .before .wide2 .ensures .0)) .order
 
 part-value-at-end-2 : tie.Need-part-value-at-end-2 Inv-loop μ-loop
-part-value-at-end-2 c = (handed (c .before .before .before .before .before .before .before .before .before .before .before .pre) (c .before .before .before .before .before .loop-test .taken) (c .before .before .before .wide .ensures .0) (c .before .wide2 .ensures .0)) .inside-v
+part-value-at-end-2 c = (handed (c .before .before .before .before .before .before .before .before .before .before .before .pre .0) (c .before .before .before .before .before .loop-test .taken) (c .before .before .before .wide .ensures .0) (c .before .wide2 .ensures .0)) .inside-v
 
 value-at-requires : tie.Need-value-at-requires Inv-loop μ-loop
 value-at-requires c κs = search needs
 
-mul-forward-at : tie.Need-mul-forward-at Inv-loop μ-loop
-mul-forward-at c = search needs
+mul-forward-column : tie.Need-mul-forward-column Inv-loop μ-loop
+mul-forward-column c = search needs
 
-sub-forward-at : tie.Need-sub-forward-at Inv-loop μ-loop
-sub-forward-at c = (handed (c .before .before .before .before .before .before .before .before .before .before .before .before .before .pre) (c .before .before .before .before .before .before .before .loop-test .taken) (c .before .before .before .before .before .wide .ensures .0) (c .before .before .before .wide2 .ensures .0)) .order
+sub-forward-column : tie.Need-sub-forward-column Inv-loop μ-loop
+sub-forward-column c = (handed (c .before .before .before .before .before .before .before .before .before .before .before .before .before .pre .0) (c .before .before .before .before .before .before .before .loop-test .taken) (c .before .before .before .before .before .wide .ensures .0) (c .before .before .before .wide2 .ensures .0)) .order
 
-part-forward-at-start : tie.Need-part-forward-at-start Inv-loop μ-loop
-part-forward-at-start c = (handed (c .before .before .before .before .before .before .before .before .before .before .before .before .before .pre) (c .before .before .before .before .before .before .before .loop-test .taken) (c .before .before .before .before .before .wide .ensures .0) (c .before .before .before .wide2 .ensures .0)) .order
+part-forward-column-start : tie.Need-part-forward-column-start Inv-loop μ-loop
+part-forward-column-start c = (handed (c .before .before .before .before .before .before .before .before .before .before .before .before .before .pre .0) (c .before .before .before .before .before .before .before .loop-test .taken) (c .before .before .before .before .before .wide .ensures .0) (c .before .before .before .wide2 .ensures .0)) .order
 
-part-forward-at-end : tie.Need-part-forward-at-end Inv-loop μ-loop
-part-forward-at-end c = (handed (c .before .before .before .before .before .before .before .before .before .before .before .before .before .pre) (c .before .before .before .before .before .before .before .loop-test .taken) (c .before .before .before .before .before .wide .ensures .0) (c .before .before .before .wide2 .ensures .0)) .inside
+part-forward-column-end : tie.Need-part-forward-column-end Inv-loop μ-loop
+part-forward-column-end c = (handed (c .before .before .before .before .before .before .before .before .before .before .before .before .before .pre .0) (c .before .before .before .before .before .before .before .loop-test .taken) (c .before .before .before .before .before .wide .ensures .0) (c .before .before .before .wide2 .ensures .0)) .inside
 
-mul-forward-at-2 : tie.Need-mul-forward-at-2 Inv-loop μ-loop
-mul-forward-at-2 c = search needs
+mul-forward-column-2 : tie.Need-mul-forward-column-2 Inv-loop μ-loop
+mul-forward-column-2 c = search needs
 
-sub-forward-at-2 : tie.Need-sub-forward-at-2 Inv-loop μ-loop
-sub-forward-at-2 c = (handed (c .before .before .before .before .before .before .before .before .before .before .before .before .before .before .pre) (c .before .before .before .before .before .before .before .before .loop-test .taken) (c .before .before .before .before .before .before .wide .ensures .0) (c .before .before .before .before .wide2 .ensures .0)) .order
+sub-forward-column-2 : tie.Need-sub-forward-column-2 Inv-loop μ-loop
+sub-forward-column-2 c = (handed (c .before .before .before .before .before .before .before .before .before .before .before .before .before .before .pre .0) (c .before .before .before .before .before .before .before .before .loop-test .taken) (c .before .before .before .before .before .before .wide .ensures .0) (c .before .before .before .before .wide2 .ensures .0)) .order
 
-part-forward-at-start-2 : tie.Need-part-forward-at-start-2 Inv-loop μ-loop
-part-forward-at-start-2 c = (handed (c .before .before .before .before .before .before .before .before .before .before .before .before .before .before .pre) (c .before .before .before .before .before .before .before .before .loop-test .taken) (c .before .before .before .before .before .before .wide .ensures .0) (c .before .before .before .before .wide2 .ensures .0)) .order
+part-forward-column-start-2 : tie.Need-part-forward-column-start-2 Inv-loop μ-loop
+part-forward-column-start-2 c = (handed (c .before .before .before .before .before .before .before .before .before .before .before .before .before .before .pre .0) (c .before .before .before .before .before .before .before .before .loop-test .taken) (c .before .before .before .before .before .before .wide .ensures .0) (c .before .before .before .before .wide2 .ensures .0)) .order
 
-part-forward-at-end-2 : tie.Need-part-forward-at-end-2 Inv-loop μ-loop
-part-forward-at-end-2 c = (handed (c .before .before .before .before .before .before .before .before .before .before .before .before .before .before .pre) (c .before .before .before .before .before .before .before .before .loop-test .taken) (c .before .before .before .before .before .before .wide .ensures .0) (c .before .before .before .before .wide2 .ensures .0)) .inside-v
+part-forward-column-end-2 : tie.Need-part-forward-column-end-2 Inv-loop μ-loop
+part-forward-column-end-2 c = (handed (c .before .before .before .before .before .before .before .before .before .before .before .before .before .before .pre .0) (c .before .before .before .before .before .before .before .before .loop-test .taken) (c .before .before .before .before .before .before .wide .ensures .0) (c .before .before .before .before .wide2 .ensures .0)) .inside-v
 
-forward-at-requires : tie.Need-forward-at-requires Inv-loop μ-loop
-forward-at-requires c κs = search needs
+forward-column-requires : tie.Need-forward-column-requires Inv-loop μ-loop
+forward-column-requires c κs = forwarding-asked (c .before .before .before .before .before .before .before .before .before .before .before .loop .inv) (c .before .before .before .before .before .before .before .before .before .before .loop-test .taken) (handed (c .before .before .before .before .before .before .before .before .before .before .before .before .before .before .before .before .pre .0) (c .before .before .before .before .before .before .before .before .before .before .loop-test .taken) (c .before .before .before .before .before .before .before .before .wide .ensures .0) (c .before .before .before .before .before .before .wide2 .ensures .0))
 
 add-j : tie.Need-add-j Inv-loop μ-loop
 add-j c = search needs
@@ -98,7 +98,7 @@ loop-less : tie.Need-loop-less Inv-loop μ-loop
 loop-less c = omega (arith, c .before .before .before .before .before .before .before .before .before .before .before .before .before .loop-test .taken)
 
 loop-again : tie.Need-loop-again Inv-loop μ-loop
-loop-again c = forwarding-turn (c .before .before .before .before .before .before .before .before .before .before .before .before .before .before .loop .inv) (c .before .before .before .before .before .before .before .before .before .before .before .before .before .loop-test .taken) (handed (c .before .before .before .before .before .before .before .before .before .before .before .before .before .before .before .before .before .before .before .pre) (c .before .before .before .before .before .before .before .before .before .before .before .before .before .loop-test .taken) (c .before .before .before .before .before .before .before .before .before .before .before .wide .ensures .0) (c .before .before .before .before .before .before .before .before .before .wide2 .ensures .0)) (c .before .before .before .before .before .before .value-at .ensures) (c .before .before .forward-at .ensures)
+loop-again c = forwarding-turn (c .before .before .before .before .before .before .before .before .before .before .before .before .before .before .loop .inv) (c .before .before .before .before .before .before .before .before .before .before .before .before .before .loop-test .taken) (handed (c .before .before .before .before .before .before .before .before .before .before .before .before .before .before .before .before .before .before .before .pre .0) (c .before .before .before .before .before .before .before .before .before .before .before .before .before .loop-test .taken) (c .before .before .before .before .before .before .before .before .before .before .before .wide .ensures .0) (c .before .before .before .before .before .before .before .before .before .wide2 .ensures .0)) (c .before .before .before .before .before .before .value-at .ensures) (c .before .before .forward-column .ensures)
 
 same-length : tie.Need-same-length Inv-loop μ-loop
 same-length c = c .before .loop .inv .long
@@ -129,15 +129,15 @@ forward-spec =
     part-value-at-start-2
     part-value-at-end-2
     value-at-requires
-    mul-forward-at
-    sub-forward-at
-    part-forward-at-start
-    part-forward-at-end
-    mul-forward-at-2
-    sub-forward-at-2
-    part-forward-at-start-2
-    part-forward-at-end-2
-    forward-at-requires
+    mul-forward-column
+    sub-forward-column
+    part-forward-column-start
+    part-forward-column-end
+    mul-forward-column-2
+    sub-forward-column-2
+    part-forward-column-start-2
+    part-forward-column-end-2
+    forward-column-requires
     add-j
     loop-less
     loop-again

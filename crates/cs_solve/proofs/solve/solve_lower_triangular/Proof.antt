@@ -25,7 +25,7 @@ unfolding forward forwardColumn diagonal lackingColumns lacking
 returns-2 c = at-10 _ _ _ _ (c .before .before .before .judge .ensures) (c .before .before .if1 .left) (c .before .first-lacking .ensures) (c .if2 .taken)
 
 forward-requires : tie.Need-forward-requires
-forward-requires c κs = passed _ _ _ _ _ _ (c .before .before .before .before .judge .ensures) (c .before .before .before .if1 .left) .square
+forward-requires c κs = let q = passed _ _ _ _ _ _ (c .before .before .before .before .judge .ensures) (c .before .before .before .if1 .left) in (q .square, q .whole)
 
 same-length : tie.Need-same-length
 same-length c = search needs
