@@ -17,11 +17,11 @@ use Rattle.lists.specs.Parts.{part}
 use Rattle.lists.proofs.Folds.{Along, along-start, along-turn, along-end}
 use Rattle.lists.proofs.Parts.{length-part, getD-part}
 use Rattle.lists.proofs.Runs.{rises-drop}
+use Rattle.lists.proofs.Positions.{part-drop}
 use Rattle.cs_matrix.specs.Matrix.{column, valueAt}
 use Rattle.cs_matrix.proofs.Values.{value-there}
 use Rattle.cs_left.specs.Left.{addAt, addColumn}
 use Rattle.cs_left.specs.Steps.{plusAt, addHeld, advance, Entries, Cut, Next, Crossing, Crossings}
-use Rattle.cs_left.proofs.Positions.{part-drop}
 
 -- ---- a column that is cut at row k
 -- the rows before it are passed over

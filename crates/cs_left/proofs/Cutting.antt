@@ -14,8 +14,8 @@ use Rattle.lists.specs.Order.{rises, Rising, Once, no-more, one-more}
 use Rattle.lists.proofs.Bools.{le-or-lt, eq-or-ne}
 use Rattle.lists.proofs.Ordering.{rises-apart, rising-rises}
 use Rattle.lists.proofs.Spots.{Spot, spot, member-at}
+use Rattle.lists.proofs.Positions.{along-keeps}
 use Rattle.cs_left.specs.Steps.{advance, Cut, Next}
-use Rattle.cs_left.proofs.Positions.{along-keeps}
 
 module _ {k : ℕ} {rows : List ℕ} {m : ℕ} (c : Cut k rows m) where
   -- row k is the first at or past k

@@ -1,4 +1,3 @@
-pub mod Positions
 pub mod Columns
 pub mod Crossing
 pub mod Within

@@ -18,6 +18,7 @@ use Rattle.lists.proofs.Bools.{not-both, le-or-lt, not-holds}
 use Rattle.lists.proofs.Chosen.{someOf-member, member-chosen}
 use Rattle.lists.proofs.Members.{listed-or-not}
 use Rattle.lists.proofs.Ordering.{lists-mean}
+use Rattle.lists.proofs.Positions.{along-keeps, over-keeps}
 use Rattle.cs_matrix.specs.Matrix.{pattern, matrix, column, valueAt, Valid}
 use Rattle.cs_tree.specs.Least.{In}
 use Rattle.cs_tree.specs.Pattern.{upper, lower}
@@ -28,7 +29,6 @@ use Rattle.cs_pattern.specs.Columns.{columns}
 use Rattle.cs_pattern.proofs.Columns.{columns-fit, columns-long, column-at}
 use Rattle.cs_cholesky.specs.Served.{Served}
 use Rattle.cs_left.specs.Left.{putAt, addAt, addColumn, addColumns, leftX, stray, strays}
-use Rattle.cs_left.proofs.Positions.{along-keeps, over-keeps}
 
 none-above : lt none none ≡ false
 unfolding lt ofBits

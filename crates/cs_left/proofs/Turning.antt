@@ -31,10 +31,10 @@ use Rattle.cs_cholesky.proofs.Factoring.{Reached, reached-start, reached-turn, 
 use Rattle.cs_cholesky.proofs.Serving.{laid-size, laid-end, laid-inside, laid-order}
 use Rattle.root.specs.Root.{rootOf}
 use Rattle.lists.proofs.Spots.{member-at, along-same}
+use Rattle.lists.proofs.Positions.{once-apart, drop-same, flatten-last, part-flat, along-keeps}
 use Rattle.cs_left.specs.Left.{putAt, addColumn, addColumns, leftX, leftStep, quotients, left, strays}
 use Rattle.cs_left.specs.Steps.{zeroAt, addHeld, advance, Entries, Places, Cut, Next, Crossing, Crossings, Within, Gathers, Finishes, Asked, Ended}
 use Rattle.cs_left.proofs.Columns.{length-quotients}
-use Rattle.cs_left.proofs.Positions.{once-apart, drop-same, flatten-last, part-flat, along-keeps}
 use Rattle.cs_left.proofs.Cutting.{cut-here, cut-first, next-on, next-stays, length-advances, advance-missing, advance-hit}
 use Rattle.cs_left.proofs.Placed.{in-lower, x-off, diagonal-in}
 

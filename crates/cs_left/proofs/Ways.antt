@@ -7,19 +7,17 @@ use Prim.Native.Nat.{ℕ, zero, suc, _+_, _-_, _≤_, _<_}
 use native.Mathlib.Omega.{arith}
 use lib.Dec.{eqb}
 use lib.Ieee.{Float}
-use lib.ListN.{length, getD, take, drop, replicate, length-replicate, getD-replicate}
-use lib.Seq.{ext-getD, getD-take}
+use lib.ListN.{length, getD}
 use Rattle.lists.specs.Calls.{lowest, none, Scratch, scratch, cleared, wiped, Lent, lent, worked, leaves}
 use Rattle.lists.specs.Choices.{some, chosen}
 use Rattle.lists.specs.Order.{rises}
 use Rattle.lists.specs.Parts.{part, placed}
 use Rattle.lists.proofs.Calls.{wiped-each}
 use Rattle.lists.proofs.Chosen.{chosen-alike}
-use Rattle.lists.proofs.Clearing.{length-cleared, cleared-front, cleared-same, cleared-again}
-use Rattle.lists.proofs.Laying.{part-long, part-front}
+use Rattle.lists.proofs.Clearing.{length-cleared, cleared-again}
+use Rattle.lists.proofs.Laying.{part-long}
 use Rattle.lists.proofs.Ordering.{rising-rises}
-use Rattle.lists.proofs.Parts.{length-placed}
-use Rattle.lists.proofs.Places.{placed-after}
+use Rattle.lists.proofs.Returning.{back-long, front-zeros, cleared-after}
 use Rattle.cs_matrix.specs.Matrix.{pattern, Matrix, matrix, column, needed}
 use Rattle.cs_tree.specs.Pattern.{Analysis, analysis, upper, lower, entries}
 use Rattle.cs_pattern.specs.Columns.{columns}
@@ -50,19 +48,10 @@ module _ {n : ℕ} {p i : List ℕ} {v : List Float} {up ui lp li : List ℕ} {r
       (λ k h. ap (λ (l : List ℕ). strayIn k l (column p k i)) (l-column S h) ∙ ap (strayIn k (getD (lower (columns (pattern n n p i))) k [])) (sym (column-at (pattern n n p i) k h))))
 
 -- ---- scratch: cleared, lent in part, and cleared again
-zeros-front : (n : ℕ) (x : List Float) → n + 1 ≤ length x → part 0 n (cleared none (n + 1) x) ≡ replicate n none
-zeros-front n x h =
-    let l : n ≤ length (cleared none (n + 1) x) = omega (arith, length-cleared none (n + 1) x) in
-    ext-getD none (part 0 n (cleared none (n + 1) x)) (replicate n none) (part-long n (cleared none (n + 1) x) l ∙ sym (length-replicate n none))
-    (λ q g. (let d : q < n = omega (arith, part-long n (cleared none (n + 1) x) l) in
-    ap (λ (a : List Float). getD a q none) (part-front n (cleared none (n + 1) x)) ∙ getD-take n (cleared none (n + 1) x) q none d ∙ cleared-front none (n + 1) x q (omega arith) ∙ sym (getD-replicate n q none none d)))
-
 again : {A : Type 0} (z : A) (n : ℕ) (w ys : List A) {w1 : List A} → n + 1 ≤ length w → w1 ≡ cleared z (n + 1) w → length ys ≡ length (part 0 n w1) → cleared z (n + 1) (placed 0 n w1 ys) ≡ cleared z (n + 1) w
 again z n w ys {w1} h e l =
     let a : n + 1 ≤ length w1 = omega (arith, ap length e, length-cleared z (n + 1) w) in
-    let b : length ys ≡ n - 0 = omega (arith, l, part-long n w1 (omega arith)) in
-    cleared-same z (n + 1) (placed 0 n w1 ys) w1 (length-placed 0 n w1 ys (omega arith) (omega arith) b) (λ q g. placed-after z 0 n w1 ys (omega arith) (omega arith) b q (omega arith))
-    ∙ ap (cleared z (n + 1)) e ∙ cleared-again z (n + 1) w
+    cleared-after z n (n + 1) w1 ys (omega arith) (omega arith) (l ∙ part-long n w1 (omega arith)) ∙ ap (cleared z (n + 1)) e ∙ cleared-again z (n + 1) w
 
 -- ---- the ways out
 module _ (nrows n : ℕ) (p i : List ℕ) (v : List Float) (tr up ui lp li : List ℕ) (lx : List Float) (w1 w2 w3 : List ℕ) (x : List Float) where
@@ -127,10 +116,10 @@ module _ (nrows n : ℕ) (p i : List ℕ) (v : List Float) (tr up ui lp li : Lis
       way-x = omega (arith, ap length xa-is, length-cleared none (n + 1) x, P .wide .in-x)
 
       pub way-w1-long : (ys : List ℕ) → length ys ≡ length (part 0 n w1a) → length (placed 0 n w1a ys) ≡ length w1a
-      way-w1-long ys l = length-placed 0 n w1a ys (omega arith) way-w1 (omega (arith, l, part-long n w1a way-w1))
+      way-w1-long ys l = back-long n w1a ys way-w1 l
 
       pub way-x-long : (zs : List Float) → length zs ≡ length (part 0 n xa) → length (placed 0 n xa zs) ≡ length xa
-      way-x-long zs l = length-placed 0 n xa zs (omega arith) way-x (omega (arith, l, part-long n xa way-x))
+      way-x-long zs l = back-long n xa zs way-x l
 
       module _ {b : Bool} (g : b ≡ some (chosen n (λ k. strayIn k (column lp k li) (column p k i)))) where
         stray-square : strays (matrix n n p i v) ≡ b
@@ -152,7 +141,7 @@ module _ (nrows n : ℕ) (p i : List ℕ) (v : List Float) (tr up ui lp li : Lis
                 served = P .served;
                 none-stray = stray-square ∙ q;
                 next-long = part-long n w1a way-w1;
-                zeros = ap (part 0 n) xa-is ∙ zeros-front n x (P .wide .in-x);
+                zeros = ap (part 0 n) xa-is ∙ front-zeros none n (n + 1) x (omega arith) (P .wide .in-x);
               }
 
           left-is : left (matrix n n p i v) ≡ left a
