@@ -7,8 +7,7 @@ use Prim.Native.Nat.{ℕ, _+_, _-_, _≤_, _<_, min}
 use native.Mathlib.Omega.{arith}
 use lib.Dec.{ltb, eqb}
 use lib.Ieee.{Float}
-use lib.ListN.{length, getD, take, drop}
-use lib.Seq.{take-append-add}
+use lib.ListN.{length, getD, take}
 use borrow.Author.Tests.{lt-ltb, le-ltb, ltb-false}
 use Rattle.lists.specs.Calls.{lowest, onto, none, cleared, Scratch, scratch, wiped, narrow, Lent, lent, leaves}
 use Rattle.lists.specs.Parts.{part, placed}
@@ -17,14 +16,14 @@ use Rattle.lists.proofs.Bools.{or-false, le-or-lt}
 use Rattle.lists.proofs.Calls.{first, then, early, late, done, wiped-each}
 use Rattle.lists.proofs.Clearing.{length-cleared, cleared-front, cleared-again}
 use Rattle.lists.proofs.Laying.{part-onto, part-long}
-use Rattle.lists.proofs.Parts.{left-at, length-onto, getD-onto-front}
+use Rattle.lists.proofs.Parts.{length-onto, getD-onto-front}
 use Rattle.cs_matrix.specs.Matrix.{Pattern, pattern, needed, ValidPattern}
 use Rattle.cs_tree.specs.Pattern.{Analysis, analysis, analysed, upper, lower, transposed, starts, entries}
 use Rattle.cs_tree.specs.Steps.{Given, Zeros, lengths, Whole}
 use Rattle.cs_tree.specs.Tree.{tree}
 use Rattle.cs_tree.proofs.Count.{length-starts, entries-lower}
 use Rattle.lists.proofs.Keeping.{kept-then, kept-wider, kept-cleared, kept-onto, kept-placed, kept-clears}
-use Rattle.cs_tree.proofs.Laid.{length-laid, length-lengths}
+use Rattle.cs_tree.proofs.Laid.{length-laid}
 use Rattle.cs_tree.proofs.Laws.{fill-upper}
 use Rattle.cs_tree.proofs.Lowering.{pointed-onto}
 use Rattle.cs_tree.proofs.Promises.{promised, filled, length-lower}
@@ -33,7 +32,7 @@ use Rattle.cs_pattern.specs.Columns.{columns}
 use Rattle.cs_pattern.specs.Promise.{Analysed}
 use Rattle.cs_pattern.specs.Steps.{Begun, Ready}
 use Rattle.cs_pattern.proofs.Columns.{columns-fit, columns-long, given}
-use Rattle.cs_pattern.proofs.Filled.{tree-size, upper-size, zeros-front}
+use Rattle.cs_pattern.proofs.Filled.{tree-size, upper-size, zeros-front, lengths-there}
 use Rattle.cs_pattern.proofs.Promising.{analysed-holds}
 use Rattle.cs_pattern.proofs.Squaring.{judged6, early-6, Prepared, unprepared}
 
@@ -195,14 +194,7 @@ module _ {nrows n : ℕ} {p i w1 w2 w3 : List ℕ} {x : List Float} {old : Scrat
     size-is h = omega (arith, B .count)
 
     pub lengths-front : t ≤ 4194304 → take (n + 1) w3′ ≡ lengths (upper D) ++ (0 ∷ [])
-    unfolding onto
-    lengths-front h =
-        let l : length (lengths (upper D)) ≡ n = length-lengths (upper D) ∙ upper-size square-valid in
-        let z : getD w3 n 0 ≡ 0 = rw w3-is (cleared-front 0 (n + 1) (old .w3) n (omega arith)) in
-        let e : n + 1 ≡ length (lengths (upper D)) + 1 = omega arith in
-        let d : drop (length (lengths (upper D))) w3 ≡ 0 ∷ drop (n + 1) w3 = ap (λ (k : ℕ). drop k w3) l ∙ left-at w3 n 0 (omega (arith, long3)) ∙ ap (λ (y : ℕ). y ∷ drop (n + 1) w3) z in
-        ap (take (n + 1)) (B .lengths-are h) ∙ ap (λ (k : ℕ). take k (lengths (upper D) ++ drop (length (lengths (upper D))) w3)) e
-        ∙ take-append-add (lengths (upper D)) (drop (length (lengths (upper D))) w3) 1 ∙ ap (λ (y : List ℕ). lengths (upper D) ++ take 1 y) d
+    lengths-front h = lengths-there square-valid B long3 (rw w3-is (cleared-front 0 (n + 1) (old .w3) n (omega arith))) h
 
     module _ (out : Analysis) where
       abbrev room : Bool

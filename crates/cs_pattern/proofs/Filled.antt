@@ -3,7 +3,8 @@ use mathlib.Core.Path.{_≡_, refl, sym, ap, _∙_}
 use mathlib.Core.List.{List, [], _∷_, _++_, flatten}
 use Prim.Native.Nat.{ℕ, _+_, _-_, _≤_, _<_, _^_, min}
 use native.Mathlib.Omega.{arith}
-use lib.ListN.{length, getD, take}
+use lib.ListN.{length, getD, take, drop}
+use lib.Seq.{take-append-add}
 use Rattle.lists.specs.Calls.{onto, cleared}
 use Rattle.lists.specs.Keys.{byKey}
 use Rattle.lists.specs.Parts.{part, placed}
@@ -11,7 +12,7 @@ use Rattle.lists.specs.Sums.{counted, sums}
 use Rattle.lists.specs.Keeping.{Kept}
 use Rattle.lists.proofs.Clearing.{length-cleared, cleared-front}
 use Rattle.lists.proofs.Laying.{placed-front, part-long, part-onto}
-use Rattle.lists.proofs.Parts.{getD-part}
+use Rattle.lists.proofs.Parts.{getD-part, left-at}
 use Rattle.cs_matrix.specs.Matrix.{pattern, ValidPattern}
 use Rattle.cs_tree.specs.Pattern.{upper, transposed, starts, entries}
 use Rattle.cs_tree.specs.Steps.{Given, Zeros, Pointed, lengths, numbers, Spreads, Whole}
@@ -72,6 +73,16 @@ module _ {n : ℕ} {p i : List ℕ} (v : ValidPattern (pattern n n p i)) where
           kept3 = kept-placed n w3 c (y ∙ part-long n w3 l3) l3;
           lengths-are = λ h. ap (placed 0 n w3) (z .1 h) ∙ placed-front w3 (lengths (upper C)) n (length-lengths (upper C) ∙ upper-size);
         }
+
+  -- the lengths of U's columns and a zero behind them, where they are not too many
+  pub lengths-there : {t : ℕ} {w1 w1′ w2 w2′ w3 w3′ : List ℕ} → Begun C n t w1 w1′ w2 w2′ w3 w3′ → n + 1 ≤ length w3 → getD w3 n 0 ≡ 0 → t ≤ 4194304 → take (n + 1) w3′ ≡ lengths (upper C) ++ (0 ∷ [])
+  unfolding onto
+  lengths-there {w3 = w3} B m z h =
+      let l : length (lengths (upper C)) ≡ n = length-lengths (upper C) ∙ upper-size in
+      let e : n + 1 ≡ length (lengths (upper C)) + 1 = omega arith in
+      let d : drop (length (lengths (upper C))) w3 ≡ 0 ∷ drop (n + 1) w3 = ap (λ (k : ℕ). drop k w3) l ∙ left-at w3 n 0 (omega arith) ∙ ap (λ (y : ℕ). y ∷ drop (n + 1) w3) z in
+      ap (take (n + 1)) (B .lengths-are h) ∙ ap (λ (k : ℕ). take k (lengths (upper C) ++ drop (length (lengths (upper C))) w3)) e
+      ∙ take-append-add (lengths (upper C)) (drop (length (lengths (upper C))) w3) 1 ∙ ap (λ (y : List ℕ). lengths (upper C) ++ take 1 y) d
 
   -- ---- `fill_upper`
   module _ (counts up : List ℕ) (h : take (n + 1) counts ≡ lengths (upper C) ++ (0 ∷ [])) (l : n + 1 ≤ length counts) (m : n + 1 ≤ length up) (few : entries (upper C) ≤ 4194304) where

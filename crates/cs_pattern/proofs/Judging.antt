@@ -32,8 +32,8 @@ use Rattle.cs_tree.proofs.Promises.{promised, filled}
 use Rattle.cs_pattern.specs.Analyse.{judgedSquare}
 use Rattle.cs_pattern.specs.Columns.{columns}
 use Rattle.cs_pattern.specs.Compare.{startsWith, same, tight, number}
-use Rattle.cs_pattern.specs.Steps.{Begun, Counts, Fresh}
-use Rattle.cs_pattern.proofs.Analysing.{square-valid, cleared-up, kept1, kept2′, kept3′, lengths-front, long1, long2, long3}
+use Rattle.cs_pattern.specs.Steps.{Counts, Fresh}
+use Rattle.cs_pattern.proofs.Analysing.{square-valid, cleared-up, long1, long2, long3}
 use Rattle.cs_pattern.proofs.Columns.{columns-fit, columns-long, given}
 use Rattle.cs_pattern.proofs.Filled.{tree-size, upper-size, zeros-front}
 use Rattle.cs_pattern.proofs.Matching.{begins, starts-at, starts-long, starts-short}
@@ -288,29 +288,18 @@ late-work true c n old e = rw e
 late-work false true n old e = rw e
 late-work false false n old e = rw e
 
-module _ {nrows n : ℕ} {p i w1 w2 w3 : List ℕ} {x : List Float} {old : Scratch} (P : Prepared (pattern nrows n p i) old (scratch w1 w2 w3 x)) {t : ℕ} {w1′ w2′ w3′ : List ℕ}
-    (B : Begun (columns (pattern n n p i)) n t w1 w1′ w2 w2′ w3 w3′) where
-  pub fresh : ValidPattern (pattern n n p i) × Fresh (columns (pattern n n p i)) n t w1′ w2′ w3′
-  fresh = (
-    square-valid P,
-    record {
-      tree-is = rw (B .tree-is) (part-onto n w1 (tree (columns (pattern n n p i))) (tree-size (square-valid P)));
-      w1-long = omega (arith, kept1 P B .long, long1 P);
-      w2-long = omega (arith, kept2′ P B .long, long2 P);
-      w3-long = omega (arith, kept3′ P B .long, long3 P);
-      count = B .count;
-      lengths-are = lengths-front P B;
-    },
-  )
+module _ {nrows n : ℕ} {p i w1 w2 w3 : List ℕ} {x : List Float} {old : Scratch} (P : Prepared (pattern nrows n p i) old (scratch w1 w2 w3 x)) where
+  pub decide-asked : ValidPattern (pattern n n p i) × (n + 1 ≤ length w1) × (n + 1 ≤ length w2) × (n + 1 ≤ length w3)
+  decide-asked = (square-valid P, long1 P, long2 P, long3 P)
 
   pub at-end : (room : ℕ) (held : Analysis) {r : ℕ} {w1f w2f w3f : List ℕ} {s : Scratch}
       → (r ≡ lowest ((7, tight room (analysed (columns (pattern n n p i)))) ∷ (8, not (same (analysed (columns (pattern n n p i))) held)) ∷ []))
-      × Kept 0 (n + 1) w1′ w1f × Kept 0 (n + 1) w2′ w2f × Kept 0 (n + 1) w3′ w3f → s ≡ wiped (n + 1) (scratch w1f w2f w3f x)
+      × Kept 0 (n + 1) w1 w1f × Kept 0 (n + 1) w2 w2f × Kept 0 (n + 1) w3 w3f → s ≡ wiped (n + 1) (scratch w1f w2f w3f x)
       → (r ≡ number (pattern nrows n p i) room held old) × (s ≡ worked r (needed (pattern nrows n p i)) old)
   unfolding columns
   at-end room held g f = (
     g .0 ∙ then (judged6 a old) ((7, tight room (analysed (columns a))) ∷ (8, not (same (analysed (columns a)) held)) ∷ []) (early-6 a old) (P .none) refl ∙ sym (number-is a room held old),
-    cleared-up P (kept-then (kept1 P B) (g .1)) (kept-then (kept2′ P B) (g .2)) (kept-then (kept3′ P B) (g .3)) f ∙ ap (λ (k : ℕ). wiped k old) (sym (P .need)) ∙ late-work (tight room (analysed (columns a))) (not (same (analysed (columns a)) held)) (needed a) old (g .0),
+    cleared-up P (g .1) (g .2) (g .3) f ∙ ap (λ (k : ℕ). wiped k old) (sym (P .need)) ∙ late-work (tight room (analysed (columns a))) (not (same (analysed (columns a)) held)) (needed a) old (g .0),
   )
     where
       a : Pattern

@@ -5,4 +5,5 @@ pub mod Squaring
 pub mod Analysing
 pub mod Matching
 pub mod Comparing
+pub mod Deciding
 pub mod Judging

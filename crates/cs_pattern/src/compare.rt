@@ -1,8 +1,10 @@
-// The comparison of a lent analysis with the one worked out afresh, column by column: there is no second one.
+// The comparison of a lent analysis with the one worked out afresh: where its tree and U read as they should nothing has to be
+// worked out, else column by column; there is no second analysis.
 ghost use mathlib.Core.Bool.{not, _&&_};
 ghost use mathlib.Core.List.{[], _∷_, flatten};
 ghost use mathlib.Core.Path.{_≡_};
 ghost use Prim.Native.Nat.{_+_, _≤_};
+ghost use lib.Dec.{ltb};
 ghost use lib.ListN.{length};
 ghost use Rattle.lists.specs.Calls.{lowest, onto, scratch, worked};
 ghost use Rattle.lists.specs.Keeping.{Kept};
@@ -14,12 +16,14 @@ ghost use Rattle.cs_pattern.specs.Columns.{columns};
 ghost use Rattle.cs_pattern.specs.Compare.{startsWith, same as sameAs, tight, number};
 ghost use Rattle.cs_pattern.specs.Steps.{Counts, Fresh};
 use crate::fill::begin;
+use crate::quick::read_upper;
 use crate::same::same;
 use crate::same::same_columns;
 use crate::same::same_lower_columns;
 use crate::square::prepare;
 use lists::clear::clear;
 use lists::clear::clear_scratch;
+use lists::numbers::wide;
 use lists::sums::count;
 use lists::sums::cumsum;
 
@@ -130,6 +134,61 @@ fn judge(
     0
 }
 
+// The same where U is known to be held, with t entries.
+fn judge_lower(
+    n: usize,
+    t: usize,
+    room: usize,
+    up: &[u32],
+    ui: &[u32],
+    lp: &[u32],
+    li: &[u32],
+    w1: &mut [u32],
+    w3: &mut [u32],
+) -> u32
+    requires { ⌜ Whole n t (now up) (now ui) × (n + 1 ≤ length (now w1)) × (n + 1 ≤ length (now w3)) ⌝ }
+    ensures { λ r. ⌜ ((w : Whole n t (now (up .entry)) (now (ui .entry)))
+        → (r ≡ lowest ((7, ltb room t) ∷ (8, not (startsWith (starts 0 (transposed (w .us))) (now (lp .entry)) && startsWith (flatten (transposed (w .us))) (now (li .entry)))) ∷ []))
+        × Kept 0 (n + 1) (now (w1 .entry)) (now (w1 .exit)) × Kept 0 (n + 1) (now (w3 .entry)) (now (w3 .exit))) ⌝ }
+{
+    if room < t {
+        return 7;
+    }
+    if !same_lower(n, t, up, ui, lp, li, w1, w3) {
+        return 8;
+    }
+    0
+}
+
+// Numbers 7 and 8, or 0.
+fn decide(
+    n: usize,
+    room: usize,
+    p: &[u32],
+    i: &[u32],
+    tree: &[u32],
+    up: &[u32],
+    ui: &[u32],
+    lp: &[u32],
+    li: &[u32],
+    w1: &mut [u32],
+    w2: &mut [u32],
+    w3: &mut [u32],
+) -> u32
+    requires { ⌜ ValidPattern (pattern n n (now p) (now i)) × (n + 1 ≤ length (now w1)) × (n + 1 ≤ length (now w2)) × (n + 1 ≤ length (now w3)) ⌝ }
+    ensures { λ r. ⌜ (let f = analysed (columns (pattern n n (now (p .entry)) (now (i .entry)))) in
+        let given = analysis (now (tree .entry)) (now (up .entry)) (now (ui .entry)) (now (lp .entry)) (now (li .entry)) in
+        (r ≡ lowest ((7, tight room f) ∷ (8, not (sameAs f given)) ∷ []))
+        × Kept 0 (n + 1) (now (w1 .entry)) (now (w1 .exit)) × Kept 0 (n + 1) (now (w2 .entry)) (now (w2 .exit)) × Kept 0 (n + 1) (now (w3 .entry)) (now (w3 .exit))) ⌝ }
+{
+    if read_upper(n, p, i, tree, up, ui, w1, w2) {
+        return judge_lower(n, wide(up[n]), room, up, ui, lp, li, w1, w3);
+    }
+    clear(n + 1, w3);
+    let t = begin(n, p, i, w1, w2, w3);
+    judge(n, t, room, p, i, tree, up, ui, lp, li, w1, w2, w3)
+}
+
 // The number that a lent analysis of a pattern gets, where L's values have the length room.
 pub fn compare(
     nrows: usize,
@@ -157,8 +216,7 @@ pub fn compare(
     if refused != 0 {
         return refused;
     }
-    let t = begin(ncols, p, i, w1, w2, w3);
-    let answer = judge(ncols, t, room, p, i, tree, up, ui, lp, li, w1, w2, w3);
+    let answer = decide(ncols, room, p, i, tree, up, ui, lp, li, w1, w2, w3);
     clear_scratch(ncols + 1, w1, w2, w3, x);
     answer
 }

@@ -4,6 +4,7 @@ pub mod analyse;
 pub mod compare;
 mod fill;
 mod lower;
+mod quick;
 mod reach;
 mod same;
 pub mod square;

@@ -18,3 +18,4 @@ pub mod Filling
 pub mod Spreading
 pub mod Lowering
 pub mod Reread
+pub mod Backward

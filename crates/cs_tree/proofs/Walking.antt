@@ -34,7 +34,7 @@ pub marks-next : {k : ℕ} {mark listed : List ℕ} → Marks k mark listed → 
 marks-next {k = k} {mark = mark} v = marks-fresh (k + 1) mark (v .most)
 
 -- one more
-marks-more : {k : ℕ} {mark : List ℕ} (l acc : List ℕ) (i : ℕ) → i < length mark → Marks k mark (l ++ acc) → Marks k (set mark i (k + 1)) ((l ++ (i ∷ [])) ++ acc)
+pub marks-more : {k : ℕ} {mark : List ℕ} (l acc : List ℕ) (i : ℕ) → i < length mark → Marks k mark (l ++ acc) → Marks k (set mark i (k + 1)) ((l ++ (i ∷ [])) ++ acc)
 marks-more {k = k} {mark = mark} l acc i h v = record { at = at; most = most }
   where
     same : lists i ((l ++ (i ∷ [])) ++ acc) ≡ true
@@ -295,7 +295,7 @@ pub tallying-start : {k : ℕ} {par : List ℕ} (rows : List ℕ) {mark : List �
 tallying-start rows v m = record { asks = v; same = refl; fits = omega arith; is = listing-start rows m }
 
 -- a slice of marks comes back as long as it was
-walks-on : {k : ℕ} {par mark mark1 : List ℕ} → Walks k par mark → length mark1 ≡ length mark → Walks k par mark1
+pub walks-on : {k : ℕ} {par mark mark1 : List ℕ} → Walks k par mark → length mark1 ≡ length mark → Walks k par mark1
 walks-on v e = record { small = v .small; p-long = v .p-long; m-long = omega (arith, v .m-long, e); above = v .above }
 
 pub tallying-turn : {k : ℕ} {par rows mark₀ mark mark1 : List ℕ} {count q len : ℕ} → Tallying k par rows mark₀ mark count q → q < length rows → length mark1 ≡ length mark

@@ -2,3 +2,4 @@ pub mod Tree
 pub mod Pattern
 pub mod Least
 pub mod Steps
+pub mod Backward

@@ -1,0 +1,97 @@
+use Rattle.lists.proofs.Laying.{part-long}
+use mathlib.Core.Bool.{true≢false}
+use Rattle.cs_tree.proofs.Backward.{Backing, backing-start, backing-turn, backing-done}
+use borrow.Author.Tests.{eqb-true}
+use native.Mathlib.Omega.{arith}
+use lib.ListN.{length}
+use Prim.Native.Nat.{_-_, _<_, _^_}
+use mathlib.Core.Path.{sym}
+use borrow.Author.Needs.{needs}
+use Rattle.cs_pattern.proofs.quick.read_column.Statement.{statement}
+use Rattle.cs_pattern.proofs.quick.read_column.Tie as tie
+use Rattle.cs_pattern.proofs.quick.read_column.Reads as reads
+use Rattle.cs_pattern.proofs.quick.read_column.Lts as lts
+use Rattle.cs_pattern.proofs.quick.read_row.Reads as read-row-reads
+
+abbrev Inv-loop : tie.InvT-loop
+Inv-loop k rows par mark₀ held top₀ q₀ mark top q = Backing k par rows held mark₀ mark top q × (length held < 2 ^ 32)
+
+abbrev μ-loop : tie.MeasureT-loop
+μ-loop k rows par mark₀ held top₀ q₀ mark top q = length rows - q
+
+-- src/quick.rt:98:5
+loop-holds : tie.Need-loop-holds Inv-loop μ-loop
+loop-holds c = (backing-start _ _ (c .before .before .before .before .pre .0) (c .before .before .before .before .pre .1), c .before .before .before .before .pre .2)
+
+-- src/quick.rt:99:32
+mul-read-row : tie.Need-mul-read-row Inv-loop μ-loop
+mul-read-row c = search needs
+
+-- src/quick.rt:99:32
+shared-slice-read-read-row : tie.Need-shared-slice-read-read-row Inv-loop μ-loop
+shared-slice-read-read-row c = search needs
+
+-- src/quick.rt:99:52
+sub-read-row : tie.Need-sub-read-row Inv-loop μ-loop
+sub-read-row c = search needs
+
+-- src/quick.rt:99:52
+part-read-row-start : tie.Need-part-read-row-start Inv-loop μ-loop
+part-read-row-start c = search needs
+
+-- src/quick.rt:99:52
+part-read-row-end : tie.Need-part-read-row-end Inv-loop μ-loop
+part-read-row-end c = search needs
+
+-- src/quick.rt:99:13
+read-row-requires : tie.Need-read-row-requires Inv-loop μ-loop
+read-row-requires c κs = (c .before .before .before .before .loop .inv .0 .asks, omega (arith, c .before .before .before .before .loop .inv .1, part-long (c .before .before .before .before .loop .top) (c .before .before .before .before .before .before .before .before .before .args .held .now) (c .before .before .before .before .loop .inv .0 .within), c .before .before .before .before .loop .inv .0 .within))
+
+-- src/quick.rt:101:13
+same-length : tie.Need-same-length Inv-loop μ-loop
+same-length c = search needs
+
+-- src/quick.rt:101:13
+returns : tie.Need-returns Inv-loop μ-loop
+returns c = λ z. absurd (true≢false (sym z))
+
+-- src/quick.rt:104:9
+add-q : tie.Need-add-q Inv-loop μ-loop
+add-q c = search needs
+
+-- src/quick.rt:98:5
+loop-less : tie.Need-loop-less Inv-loop μ-loop
+loop-less c = omega (arith, c .before .before .before .before .before .before .before .loop-test .taken)
+
+-- src/quick.rt:98:5
+loop-again : tie.Need-loop-again Inv-loop μ-loop
+loop-again c = (backing-turn (c .before .before .before .before .before .before .before .before .loop .inv .0) (c .before .before .before .before .before .before .before .loop-test .taken) (c .before .before .before .read-row .kept .1 .1 .1 .0) (c .before .before .before .read-row .ensures) (c .if1 .left), c .before .before .before .before .before .before .before .before .loop .inv .1)
+
+-- src/quick.rt:92:1
+same-length-2 : tie.Need-same-length-2 Inv-loop μ-loop
+same-length-2 c = search needs
+
+-- src/quick.rt:92:1
+returns-2 : tie.Need-returns-2 Inv-loop μ-loop
+returns-2 c = λ z. backing-done (c .before .loop .inv .0) (c .loop-test .left) (eqb-true _ _ z)
+
+pub read-column-spec : {M : Type 1} → statement M
+read-column-spec =
+    tie.close
+    (tie.spec
+    Inv-loop
+    μ-loop
+    loop-holds
+    mul-read-row
+    shared-slice-read-read-row
+    sub-read-row
+    part-read-row-start
+    part-read-row-end
+    read-row-requires
+    same-length
+    returns
+    add-q
+    loop-less
+    loop-again
+    same-length-2
+    returns-2)
