@@ -7,7 +7,8 @@ use lib.Dec.{ltb, eqb}
 use lib.Ieee.{Float, binary64, ofBits}
 use lib.ListN.{length, drop}
 
--- the lowest number that applies, of a list of numbers with their conditions, the numbers rising; 0 where none does
+-- the first number of a list whose condition holds, or 0 where none does. Calls list their numbers rising, so that it is the lowest
+-- that applies; the job file lists 12 first, as document 01 has it
 abbrev pub lowest : List (ℕ × Bool) → ℕ
 lowest [] = 0
 lowest (c ∷ cs) = cond (c .1) (c .0) (lowest cs)
