@@ -2,4 +2,5 @@ pub mod Meeting
 pub mod Draining
 pub mod Sorted
 pub mod Remaining
+pub mod Spanning
 pub mod Produced

@@ -7,9 +7,9 @@ use lib.Ieee.{Float, nan}
 use lib.ListN.{length, getD, take, replicate}
 use Rattle.lists.specs.Calls.{none}
 use Rattle.lists.specs.Choices.{chosen, keep}
-use Rattle.lists.specs.Folds.{over}
+use Rattle.lists.specs.Folds.{along, over}
 use Rattle.lists.specs.Order.{lists, rises, Once}
-use Rattle.cs_matrix.specs.Matrix.{Matrix, Stored, Valid}
+use Rattle.cs_matrix.specs.Matrix.{Pattern, Matrix, Stored, column, ValidPattern, Valid}
 use Rattle.cs_columns.specs.Columns.{either, joined}
 use Rattle.cs_product.specs.Product.{addColumn, rowOf, remains}
 
@@ -96,7 +96,31 @@ pub record Column (a : Matrix) (stamp : ℕ) (rows : List ℕ) (vals : List Floa
   pub in-i : start + length (chosen (a .pattern .nrows) (remains (columnOf a rows vals))) ≤ length oi
   pub in-v : start + length (chosen (a .pattern .nrows) (remains (columnOf a rows vals))) ≤ length ov
 
--- ---- two valid matrices, and scratch for their columns
+-- ---- the rows that a column of the product can have
+-- what `span_of` asks: columns of A
+pub record Within (a : Pattern) (cols : List ℕ) : Type 0 where
+  pub valid : ValidPattern a
+  pub few : length cols ≤ 4194304
+  pub below : (k : ℕ) → k < length cols → getD cols k 0 < a .ncols
+
+-- how many entries they have
+unfoldable pub workOf : Pattern → List ℕ → ℕ
+workOf a cols = along (λ c n. n + length (column (a .p) c (a .i))) cols 0
+
+-- their rows are not below lo, and below hi
+pub record Spanned (a : Pattern) (cols : List ℕ) (lo hi work : ℕ) : Type 0 where
+  pub order : lo ≤ hi
+  pub inside : hi ≤ a .nrows
+  pub low : (k : ℕ) → k < length cols → (q : ℕ) → q < length (column (a .p) (getD cols k 0) (a .i)) → lo ≤ getD (column (a .p) (getD cols k 0) (a .i)) q 0
+  pub high : (k : ℕ) → k < length cols → (q : ℕ) → q < length (column (a .p) (getD cols k 0) (a .i)) → getD (column (a .p) (getD cols k 0) (a .i)) q 0 < hi
+  pub work-is : work ≡ workOf a cols
+
+-- ---- two valid matrices
+pub record Operands (a b : Matrix) : Type 0 where
+  pub first : Valid a
+  pub second : Valid b
+
+-- and scratch for their columns
 pub record Begun (a b : Matrix) (stamp : ℕ) (mark met : List ℕ) (x : List Float) : Type 0 where
   pub first : Valid a
   pub second : Valid b

@@ -3,4 +3,6 @@ mod accumulate;
 mod columns;
 mod gather;
 pub mod product;
+mod room;
 mod sorting;
+mod span;
