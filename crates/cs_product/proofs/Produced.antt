@@ -61,7 +61,7 @@ module _ (nrows ncols : ℕ) (ap ai : List ℕ) (av : List Float) (bncols : ℕ)
         (second .pattern .below (getD bp j 0 + q) (omega (arith, n, f, g, handed .inside)))
 
     starting : {stamp : ℕ} {mark met : List ℕ} {x : List Float} → Valid a → Fresh nrows stamp mark met x → Starting a stamp (part s e bi) (part s e bv) mark met x
-    starting v r = record { valid = v; alike = omega (arith, length-part s e bv in-bv, length-part s e bi (handed .inside)); below = column-below; fresh = r }
+    starting v r = record { valid = v; alike = omega (arith, length-part s e bv in-bv, length-part s e bi (handed .inside)); few = omega (arith, length-part s e bi (handed .inside), handed .inside, second .pattern .entries); below = column-below; fresh = r }
 
     column-same : columnOf a (part s e bi) (part s e bv) ≡ accumulated a b j
     unfolding columnOf accumulated

@@ -62,6 +62,7 @@ module _ (nrows ncols : ℕ) (p i cols : List ℕ) where
           low = λ m l q o. omega (arith, s .low m (omega arith) q o);
           high = λ m l q o. s .high m (omega arith) q o;
           work-is = along-end (λ (c n : ℕ). n + length (column p c i)) cols (s .work-is) h;
+          work-small = omega (arith, s .small, s .ask .few);
         }
 
     module _ (h : k < length cols) {c : ℕ} (ec : c ≡ getD cols k 0) where
