@@ -1,20 +1,24 @@
--- The loops of `add_plain` and `accumulate_plain`. Assumes nothing.
-use mathlib.Core.Path.{_≡_, _∙_}
+-- The loops of `add_rows` and `accumulate_plain`, and a column whose rows are a run. Assumes nothing.
+use mathlib.Core.Path.{_≡_, refl, sym, _∙_}
+use mathlib.Core.Bool.{true}
 use mathlib.Core.List.{List}
 use Prim.Native.Nat.{ℕ, _+_, _-_, _≤_, _<_}
 use native.Mathlib.Omega.{arith}
 use lib.Ieee.{Float, nan, binary64, add, mul}
 use lib.ListN.{length, getD, set, length-set}
 use Rattle.lists.specs.Folds.{over}
-use Rattle.lists.specs.Parts.{part}
+use Rattle.lists.specs.Order.{rises}
+use Rattle.lists.specs.Parts.{part, placed}
+use Rattle.lists.specs.Runs.{tight, zipped}
 use Rattle.lists.proofs.Folds.{Over, over-start, over-turn, over-end}
 use Rattle.lists.proofs.Parts.{length-part}
+use Rattle.lists.proofs.Runs.{tight-within, over-tight}
 use Rattle.cs_matrix.specs.Matrix.{Matrix, matrix, Valid}
 use Rattle.cs_matrix.proofs.Pointers.{Between, between, column-is, getD-column}
 use Rattle.cs_product.specs.Product.{addAt, addColumn}
 use Rattle.cs_product.specs.Steps.{Addable, Plain}
 
--- ---- `add_plain`
+-- ---- `add_rows`
 module _ (n : ℕ) (beta : Float) (rows : List ℕ) (vals : List Float) where
   pub record Adding (x₀ x : List Float) (k : ℕ) : Type 0 where
     pub ask : Addable n rows vals x₀
@@ -46,6 +50,18 @@ module _ (n : ℕ) (beta : Float) (rows : List ℕ) (vals : List Float) where
             long = length-set x r (add binary64 (getD x r nan) (mul binary64 (getD vals k nan) beta)) ∙ s .long;
             is = over-turn (addAt beta) rows vals 0 nan (s .ask .alike) (s .is) h (rw e);
           }
+
+-- ---- rows that are a run are one part of x
+module _ {n : ℕ} {rows : List ℕ} {vals x : List Float} (a : Addable n rows vals x) (g : tight rows ≡ true) {r : ℕ} (e : r ≡ getD rows 0 0) where
+  pub run-within : r + length vals ≤ length x
+  run-within = omega (arith, tight-within rows (a .rise) g n (a .below), a .alike, a .x-long)
+
+  pub run-alike : length vals ≡ length (part r (r + length vals) x)
+  run-alike = sym (length-part r (r + length vals) x run-within ∙ omega arith)
+
+  pub run-adds : (beta : Float) {y : List Float} → y ≡ zipped (λ a v. add binary64 a (mul binary64 v beta)) (part r (r + length vals) x) vals → placed r (r + length vals) x y ≡ over (addAt beta) rows vals x
+  unfolding addAt
+  run-adds beta = over-tight (λ a v. add binary64 a (mul binary64 v beta)) nan (addAt beta) rows (a .rise) g r (r + length vals) e (λ z v y h. refl) vals (a .alike) x refl run-within
 
 -- ---- `accumulate_plain`
 module _ (nrows ncols : ℕ) (p i : List ℕ) (v : List Float) (rows : List ℕ) (vals : List Float) where
@@ -93,6 +109,7 @@ module _ (nrows ncols : ℕ) (p i : List ℕ) (v : List Float) (rows : List ℕ)
               small = s .ask .valid .pattern .rows;
               alike = omega (arith, length-part b e v in-v, length-part b e i (handed .inside));
               below = rows-below;
+              rise = rw (column-is handed i) (s .ask .valid .pattern .rise c col-below);
               x-long = s .long ∙ s .ask .x-long;
             }
 

@@ -17,7 +17,7 @@ use Rattle.lists.proofs.Calls.{first, then, early, kept, late, done, left-alone
 use Rattle.lists.proofs.Clearing.{length-cleared, cleared-front, cleared-same, cleared-again}
 use Rattle.lists.proofs.Laying.{part-long}
 use Rattle.lists.proofs.Parts.{length-part, getD-part, length-placed}
-use Rattle.lists.proofs.Scratches.{part-clean, clean-again}
+use Rattle.lists.proofs.Returning.{front-zeros, cleared-after}
 use Rattle.lists.proofs.Tables.{length-table}
 use Rattle.cs_matrix.specs.Matrix.{pattern, Matrix, matrix, Stored, stored, column, short, written, Valid}
 use Rattle.cs_matrix.proofs.Pointers.{Between, between, column-is, length-column, getD-column}
@@ -339,10 +339,10 @@ module _ (n need : ℕ) (g : n ≤ need) (work : Scratch) {t : Bool} (f : t ≡ 
   wiped-again y1 y2 y3 z a b c d e =
       e
       ∙ wiped-each need work
-      (clean-again 0 n need (s .w1) y1 g w1-long a ∙ (rw w1-is (cleared-again 0 need (work .w1))))
-      (clean-again 0 n need (s .w2) y2 g w2-long b ∙ (rw w2-is (cleared-again 0 need (work .w2))))
-      (clean-again 0 n need (s .w3) y3 g w3-long c ∙ (rw w3-is (cleared-again 0 need (work .w3))))
-      (clean-again none n need (s .x) z g x-long d ∙ (rw x-is (cleared-again none need (work .x))))
+      (cleared-after 0 n need (s .w1) y1 g (omega (arith, g, w1-long)) a ∙ (rw w1-is (cleared-again 0 need (work .w1))))
+      (cleared-after 0 n need (s .w2) y2 g (omega (arith, g, w2-long)) b ∙ (rw w2-is (cleared-again 0 need (work .w2))))
+      (cleared-after 0 n need (s .w3) y3 g (omega (arith, g, w3-long)) c ∙ (rw w3-is (cleared-again 0 need (work .w3))))
+      (cleared-after none n need (s .x) z g (omega (arith, g, x-long)) d ∙ (rw x-is (cleared-again none need (work .x))))
 
 -- wiping keeps the lengths
 module _ (need : ℕ) (work : Scratch) {s : Scratch} (q : s ≡ wiped need work) where
@@ -438,10 +438,10 @@ module _ (n m : ℕ) (pa ia : List ℕ) (va : List Float) (k l : ℕ) (pb ib : L
               record {
                 first = pass .first;
                 second = rw same (pass .second);
-                mark-is = rw (w1-is n (m3 + 1) n-in (old .work) ft h q) (part-clean 0 n (m3 + 1) (old .work .w1) n-in (not-narrow (m3 + 1) (old .work) (sym ft ∙ h) .in-w1));
+                mark-is = rw (w1-is n (m3 + 1) n-in (old .work) ft h q) (front-zeros 0 n (m3 + 1) (old .work .w1) n-in (not-narrow (m3 + 1) (old .work) (sym ft ∙ h) .in-w1));
                 met-long = part-long n (s .w2) in-w2;
                 spare-long = part-long n (s .w3) in-w3;
-                zeros = rw (x-is n (m3 + 1) n-in (old .work) ft h q) (part-clean none n (m3 + 1) (old .work .x) n-in (not-narrow (m3 + 1) (old .work) (sym ft ∙ h) .in-x));
+                zeros = rw (x-is n (m3 + 1) n-in (old .work) ft h q) (front-zeros none n (m3 + 1) (old .work .x) n-in (not-narrow (m3 + 1) (old .work) (sym ft ∙ h) .in-x));
               }
 
           module _ (y1 y2 y3 : List ℕ) (y4 : List Float) (e1 : length y1 ≡ length (part 0 n (s .w1))) (e2 : length y2 ≡ length (part 0 n (s .w2))) (e3 : length y3 ≡ length (part 0 n (s .w3))) (e4 : length y4 ≡ length (part 0 n (s .x)))

@@ -123,6 +123,7 @@ pub record Addable (n : ℕ) (rows : List ℕ) (vals x : List Float) : Type 0 wh
   pub small : n ≤ 65535
   pub alike : length vals ≡ length rows
   pub below : (k : ℕ) → k < length rows → getD rows k 0 < n
+  pub rise : rises rows ≡ true
   pub x-long : length x ≡ n
 
 -- what `accumulate_plain` asks: A, a column of B, and x

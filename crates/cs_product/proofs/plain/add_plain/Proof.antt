@@ -1,81 +1,67 @@
--- `add_plain`: the loop of proofs/Adding.antt. Assumes nothing.
-use Prim.Native.Nat.{_-_}
-use native.Mathlib.Omega.{arith}
-use lib.ListN.{length}
+-- `add_plain`: the run of proofs/Adding.antt, or `add_rows`. Assumes nothing.
+use mathlib.Core.Path.{sym, _∙_}
 use borrow.Author.Needs.{needs}
-use Rattle.cs_product.proofs.Adding.{Adding, adding-start, adding-turn, adding-done, row-below, row-in, value-in}
+use Rattle.cs_product.proofs.Adding.{run-within, run-alike, run-adds}
 use Rattle.cs_product.proofs.plain.add_plain.Statement.{statement}
 use Rattle.cs_product.proofs.plain.add_plain.Tie as tie
 
-abbrev Inv-loop : tie.InvT-loop
-Inv-loop n beta rows vals x₀ k₀ k-end x k = Adding n beta rows vals x₀ x k
+tight-requires : tie.Need-tight-requires
+tight-requires c κs = search needs
 
-abbrev μ-loop : tie.MeasureT-loop
-μ-loop n beta rows vals x₀ k₀ k-end x k = length rows - k
+shared-slice-read-wide : tie.Need-shared-slice-read-wide
+shared-slice-read-wide c = search needs
 
-loop-holds : tie.Need-loop-holds Inv-loop μ-loop
-loop-holds c = adding-start _ _ _ _ (c .before .before .before .pre)
+wide-requires : tie.Need-wide-requires
+wide-requires c κs = search needs
 
-mul-wide : tie.Need-mul-wide Inv-loop μ-loop
-mul-wide c = search needs
+add-add-run : tie.Need-add-add-run
+add-add-run c = search needs
 
-shared-slice-read-wide : tie.Need-shared-slice-read-wide Inv-loop μ-loop
-shared-slice-read-wide c = (c .before .loop-test .taken)
+mul-add-run : tie.Need-mul-add-run
+mul-add-run c = search needs
 
-wide-requires : tie.Need-wide-requires Inv-loop μ-loop
-wide-requires c κs = tt
+sub-add-run : tie.Need-sub-add-run
+sub-add-run c = search needs
 
-mul-x : tie.Need-mul-x Inv-loop μ-loop
-mul-x c = omega (arith, row-below _ _ _ _ (c .before .before .before .loop .inv) (c .before .before .loop-test .taken) (c .wide .ensures .0), (c .before .before .before .loop .inv .ask .small))
+part-add-run-start : tie.Need-part-add-run-start
+part-add-run-start c = search needs
 
-slice-read-x : tie.Need-slice-read-x Inv-loop μ-loop
-slice-read-x c = row-in _ _ _ _ (c .before .before .before .before .loop .inv) (c .before .before .before .loop-test .taken) (c .before .wide .ensures .0)
+part-add-run-end : tie.Need-part-add-run-end
+part-add-run-end c = run-within (c .before .before .before .before .before .before .before .before .pre) (sym (c .before .before .before .tight .ensures) ∙ c .before .before .if2 .taken) (c .wide .ensures .0)
 
-mul-x-2 : tie.Need-mul-x-2 Inv-loop μ-loop
-mul-x-2 c = search needs
+add-run-requires : tie.Need-add-run-requires
+add-run-requires c κs = run-alike (c .before .before .before .before .before .before .before .before .before .pre) (sym (c .before .before .before .before .tight .ensures) ∙ c .before .before .before .if2 .taken) (c .before .wide .ensures .0)
 
-shared-slice-read-x : tie.Need-shared-slice-read-x Inv-loop μ-loop
-shared-slice-read-x c = value-in _ _ _ _ (c .before .before .before .before .before .loop .inv) (c .before .before .before .before .loop-test .taken) (c .before .before .wide .ensures .0)
+same-length : tie.Need-same-length
+same-length c = search needs
 
-mul-x-3 : tie.Need-mul-x-3 Inv-loop μ-loop
-mul-x-3 c = omega (arith, row-below _ _ _ _ (c .before .before .before .before .before .loop .inv) (c .before .before .before .before .loop-test .taken) (c .before .before .wide .ensures .0), (c .before .before .before .before .before .loop .inv .ask .small))
+returns : tie.Need-returns
+returns c = run-adds (c .before .before .before .before .before .before .before .before .before .before .before .before .pre) (sym (c .before .before .before .before .before .before .before .tight .ensures) ∙ c .before .before .before .before .before .before .if2 .taken) (c .before .before .before .before .wide .ensures .0) _ (c .before .before .add-run .ensures)
 
-slice-write-x : tie.Need-slice-write-x Inv-loop μ-loop
-slice-write-x c = row-in _ _ _ _ (c .before .before .before .before .before .loop .inv) (c .before .before .before .before .loop-test .taken) (c .before .before .wide .ensures .0)
+add-rows-requires : tie.Need-add-rows-requires
+add-rows-requires c κs = c .before .before .before .before .before .pre
 
-add-k : tie.Need-add-k Inv-loop μ-loop
-add-k c = search needs
+same-length-2 : tie.Need-same-length-2
+same-length-2 c = search needs
 
-loop-less : tie.Need-loop-less Inv-loop μ-loop
-loop-less c = omega (arith, (c .before .before .before .before .loop-test .taken))
-
-loop-again : tie.Need-loop-again Inv-loop μ-loop
-loop-again c = adding-turn _ _ _ _ (c .before .before .before .before .before .loop .inv) (c .before .before .before .before .loop-test .taken) (c .before .before .wide .ensures .0)
-
-same-length : tie.Need-same-length Inv-loop μ-loop
-same-length c = (c .before .loop .inv .long)
-
-returns : tie.Need-returns Inv-loop μ-loop
-returns c = adding-done _ _ _ _ (c .before .loop .inv) (c .loop-test .left)
+returns-2 : tie.Need-returns-2
+returns-2 c = c .before .before .add-rows .ensures
 
 pub add-plain-spec : {M : Type 1} → statement M
 add-plain-spec =
     tie.close
     (tie.spec
-    Inv-loop
-    μ-loop
-    loop-holds
-    mul-wide
+    tight-requires
     shared-slice-read-wide
     wide-requires
-    mul-x
-    slice-read-x
-    mul-x-2
-    shared-slice-read-x
-    mul-x-3
-    slice-write-x
-    add-k
-    loop-less
-    loop-again
+    add-add-run
+    mul-add-run
+    sub-add-run
+    part-add-run-start
+    part-add-run-end
+    add-run-requires
     same-length
-    returns)
+    returns
+    add-rows-requires
+    same-length-2
+    returns-2)
