@@ -3,7 +3,7 @@ use mathlib.Core.Path.{_≡_, refl, sym, _∙_}
 use mathlib.Core.Bool.{Bool, true, false, cond}
 use mathlib.Core.List.{List, [], _∷_}
 use mathlib.Core.Logic.{⊎-elim}
-use Prim.Native.Nat.{ℕ, suc, _+_, _-_, _*_, _≤_, _<_, _^_}
+use Prim.Native.Nat.{ℕ, suc, _+_, _-_, _*_, _≤_, _<_}
 use native.Mathlib.Nat.{eq-or-lt-of-le}
 use native.Mathlib.Omega.{arith}
 use lib.Dec.{eqb}
@@ -39,14 +39,14 @@ module _ {rows cols : List ℕ} {bad k : ℕ} (v : Watching rows cols bad k) (h 
   pub in-cols : k < length cols
   in-cols = omega (arith, v .ask .alike)
 
-  fits : (q : ℕ) → q ≤ k → code rows cols q < 2 ^ 32
-  fits q l = omega (arith, v .ask .alike, v .ask .rows-below q (omega arith), v .ask .cols-below q (omega (arith, in-cols)))
+  small : (q : ℕ) → q ≤ k → (getD rows q 0 < 65536) × (getD cols q 0 < 65536)
+  small q l = (v .ask .rows-below q (omega arith), v .ask .cols-below q (omega (arith, in-cols)))
 
-  pub last-fits : code rows cols (k - 1) < 2 ^ 32
-  last-fits = fits (k - 1) (omega arith)
+  pub last-small : (getD rows (k - 1) 0 < 65536) × (getD cols (k - 1) 0 < 65536)
+  last-small = small (k - 1) (omega arith)
 
-  pub here-fits : code rows cols k < 2 ^ 32
-  here-fits = fits k (omega arith)
+  pub here-small : (getD rows k 0 < 65536) × (getD cols k 0 < 65536)
+  here-small = small k (omega arith)
 
   pub watching-falls : Watching rows cols 1 (k + 1)
   watching-falls = record { ask = v .ask; first = omega arith; up = λ z. absurd (omega arith) }
