@@ -1,28 +1,25 @@
 -- Triplets that come in order: the test that tells, and the matrix, which has the rows and values as they are given. Assumes nothing.
 use mathlib.Core.Path.{_≡_, refl, sym, _∙_}
 use mathlib.Core.Bool.{Bool, true, false, cond}
-use mathlib.Core.List.{List, [], _∷_, _++_}
+use mathlib.Core.List.{List, [], _∷_}
 use mathlib.Core.Logic.{⊎-elim}
-use Prim.Native.Nat.{ℕ, zero, suc, _+_, _-_, _*_, _≤_, _<_, _^_}
+use Prim.Native.Nat.{ℕ, suc, _+_, _-_, _*_, _≤_, _<_}
 use native.Mathlib.Nat.{eq-or-lt-of-le}
 use native.Mathlib.Omega.{arith}
 use lib.Dec.{eqb}
 use lib.Ieee.{Float}
-use lib.ListN.{length, getD, take, drop}
-use lib.Seq.{ext-getD, length-take-le, getD-take}
+use lib.ListN.{length, getD}
 use borrow.Author.Tests.{ne-eqb, eqb-true}
-use Rattle.lists.specs.Calls.{onto, cleared}
+use Rattle.lists.specs.Calls.{onto}
 use Rattle.lists.specs.Keys.{ofKey, byKey}
 use Rattle.lists.specs.Order.{lists}
 use Rattle.lists.specs.Tables.{table}
-use Rattle.lists.proofs.Bools.{le-or-lt}
-use Rattle.lists.proofs.Clearing.{length-cleared, cleared-front, cleared-rest}
-use Rattle.lists.proofs.Keeping.{kept-back, kept-clears}
 use Rattle.lists.proofs.Keys.{keys-alike}
 use Rattle.lists.proofs.Ordered.{sorted-both}
 use Rattle.cs_matrix.specs.Matrix.{Stored, stored, written}
 use Rattle.cs_conversion.specs.Assembly.{Triplets, inOrder, assembled, twice}
-use Rattle.cs_conversion.specs.Sorting.{Zeros, Sound, Coded, Ordered, Blank, asGiven}
+use Rattle.cs_conversion.specs.Sorting.{Sound}
+use Rattle.cs_conversion.specs.InOrder.{Coded, Ordered, Placed, asGiven}
 use Rattle.cs_conversion.proofs.Rowing.{table-same}
 
 -- ---- the test: column and row of a triplet as one number
@@ -42,14 +39,14 @@ module _ {rows cols : List ℕ} {bad k : ℕ} (v : Watching rows cols bad k) (h 
   pub in-cols : k < length cols
   in-cols = omega (arith, v .ask .alike)
 
-  fits : (q : ℕ) → q ≤ k → code rows cols q < 2 ^ 32
-  fits q l = omega (arith, v .ask .alike, v .ask .rows-below q (omega arith), v .ask .cols-below q (omega (arith, in-cols)))
+  small : (q : ℕ) → q ≤ k → (getD rows q 0 < 65536) × (getD cols q 0 < 65536)
+  small q l = (v .ask .rows-below q (omega arith), v .ask .cols-below q (omega (arith, in-cols)))
 
-  pub last-fits : code rows cols (k - 1) < 2 ^ 32
-  last-fits = fits (k - 1) (omega arith)
+  pub last-small : (getD rows (k - 1) 0 < 65536) × (getD cols (k - 1) 0 < 65536)
+  last-small = small (k - 1) (omega arith)
 
-  pub here-fits : code rows cols k < 2 ^ 32
-  here-fits = fits k (omega arith)
+  pub here-small : (getD rows k 0 < 65536) × (getD cols k 0 < 65536)
+  here-small = small k (omega arith)
 
   pub watching-falls : Watching rows cols 1 (k + 1)
   watching-falls = record { ask = v .ask; first = omega arith; up = λ z. absurd (omega arith) }
@@ -76,7 +73,7 @@ watching-done {rows = rows} {cols = cols} {bad = bad} v h e =
     let z = eqb-true bad 0 e in
     let s = v .ask in
     record {
-      climbs = λ a b l m. omega (arith, v .up z a b l (omega (arith, s .alike)), s .rows-below a (omega (arith, s .alike)), s .rows-below b (omega (arith, s .alike)));
+      columns = record { climbs = λ a b l m. omega (arith, v .up z a b l (omega (arith, s .alike)), s .rows-below a (omega (arith, s .alike)), s .rows-below b (omega (arith, s .alike))) };
       rise = λ a b l m n f. omega (arith, v .up z a b l (omega arith), f);
     }
 
@@ -99,7 +96,7 @@ once (r ∷ rs) (c ∷ cs) o =
     rw (not-listed r c rs cs (λ k l m f g. omega (arith, f, o .rise 0 (suc k) (omega arith) (omega arith) (omega arith) (sym g))))
     (once rs cs
     (record {
-      climbs = λ a b l m. o .climbs (suc a) (suc b) (omega arith) (omega arith);
+      columns = record { climbs = λ a b l m. o .columns .climbs (suc a) (suc b) (omega arith) (omega arith) };
       rise = λ a b l m n f. o .rise (suc a) (suc b) (omega arith) (omega arith) (omega arith) f;
     }))
 
@@ -113,10 +110,13 @@ module _ {t : Triplets} (s : Sound t) where
         cols-below = λ k h. omega (arith, s .j-below k h, s .cols);
       }
 
+  pub placed : Placed (t .ncols + 1) (t .j)
+  placed = record { few = omega (arith, s .count, s .j-long); named = λ k h. omega (arith, s .j-below k h) }
+
   module _ (o : Ordered (t .i) (t .j)) where
     stays : {A : Type 0} (xs : List A) → length xs ≡ length (t .i) → inOrder t xs ≡ xs
     unfolding inOrder
-    stays xs e = sorted-both (t .nrows) (t .ncols) (t .i) (t .j) xs (sym (s .j-long)) e (s .i-below) (s .j-below) (o .climbs) (o .rise)
+    stays xs e = sorted-both (t .nrows) (t .ncols) (t .i) (t .j) xs (sym (s .j-long)) e (s .i-below) (s .j-below) (o .columns .climbs) (o .rise)
 
     pub as-given-is : asGiven t ≡ assembled t
     unfolding asGiven assembled
@@ -130,26 +130,3 @@ pub given-written : (t : Triplets) (old : Stored) {p i : List ℕ} {v : List Flo
     → stored p i v ≡ written (asGiven t) old
 unfolding asGiven written
 given-written t old a b c = λ k. stored (a k) (b k) (c k)
-
--- ---- zeros that are counted in and cleared
-blank-cleared : {m : ℕ} {w : List ℕ} → Blank m w → cleared 0 m w ≡ w
-blank-cleared {m = m} {w = w} b =
-    ext-getD 0 (cleared 0 m w) w (length-cleared 0 m w)
-    (λ k l.
-    ⊎-elim
-    (λ (h : m ≤ k). cleared-rest 0 m w k h)
-    (λ (h : k < m). cleared-front 0 m w k h ∙ sym (b .zero k h))
-    (le-or-lt m k))
-
-module _ {m : ℕ} {w : List ℕ} (b : Blank m w) where
-  pub lent-long : m ≡ length (take m w)
-  lent-long = sym (length-take-le m w (b .long))
-
-  pub lent-zeros : Zeros (take m w)
-  lent-zeros = record { zero = λ r h. getD-take m w r 0 (omega (arith, lent-long)) ∙ b .zero r (omega (arith, lent-long)) }
-
-  pub pointers-are : (d cols : List ℕ) {p : List ℕ} → p ≡ onto d (table (length (take m w)) (λ r. length (byKey r cols cols))) → p ≡ onto d (table m (λ r. length (byKey r cols cols)))
-  pointers-are d cols e = let l : length (take m w) ≡ m = sym lent-long in rw l at e
-
-  pub zeros-again : (ys : List ℕ) {w1 : List ℕ} → length ys ≡ length (take m w) → w1 ≡ cleared 0 m (ys ++ drop m w) → w1 ≡ w
-  zeros-again ys e f = f ∙ kept-clears (kept-back m ys w (b .long) (e ∙ sym lent-long)) ∙ blank-cleared b

@@ -5,6 +5,7 @@ pub mod Naming
 pub mod Starts
 pub mod Refusing
 pub mod Rowing
+pub mod Pointing
 pub mod InOrder
 pub mod Columns
 pub mod Result

@@ -1,3 +1,4 @@
 pub mod Assembly
 pub mod Sorting
+pub mod InOrder
 pub mod Cases

@@ -1,4 +1,5 @@
 // Matrices from other forms, after cs_matrix_conversion.rs.
 pub mod assembly;
 mod ordered;
+mod pointers;
 mod sorting;

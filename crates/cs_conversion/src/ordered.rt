@@ -2,16 +2,14 @@
 // as the matrix has them, and only the pointers have to be found.
 ghost use mathlib.Core.Path.{_≡_};
 ghost use mathlib.Core.Bool.{true};
-ghost use Prim.Native.Nat.{_+_, _≤_};
+ghost use Prim.Native.Nat.{_≤_};
 ghost use lib.ListN.{length};
 ghost use Rattle.lists.specs.Calls.{onto};
-ghost use Rattle.lists.specs.Keys.{byKey};
-ghost use Rattle.lists.specs.Tables.{table};
 ghost use Rattle.cs_matrix.specs.Matrix.{stored, written};
 ghost use Rattle.cs_conversion.specs.Assembly.{triplets};
-ghost use Rattle.cs_conversion.specs.Sorting.{Sound, Room, Coded, Ordered, Blank, asGiven};
-use crate::sorting::find_starts;
-use lists::clear::clear;
+ghost use Rattle.cs_conversion.specs.Sorting.{Sound, Room};
+ghost use Rattle.cs_conversion.specs.InOrder.{Coded, Ordered, asGiven};
+use crate::pointers::pointers;
 
 // True only where the triplets come in order. Column and row are compared as one number; there is no early exit, so that
 // several are compared at a time.
@@ -29,17 +27,6 @@ pub fn in_order(rows: &[u32], cols: &[u32]) -> bool
         k += 1;
     }
     bad == 0
-}
-
-// Where each column starts, into p. The zeros of w are counted in and are zeros again.
-fn pointers(ncols: usize, cols: &[u32], p: &mut [u32], w: &mut [u32])
-    requires { ⌜ (length (now cols) ≤ 4194304) × (ncols + 1 ≤ length (now p)) × Blank (ncols + 1) (now w) ⌝ }
-    ensures { λ _. ⌜ (now (p .exit) ≡ onto (now (p .entry)) (table (ncols + 1) (λ c. length (byKey c (now (cols .entry)) (now (cols .entry))))))
-        × (now (w .exit) ≡ now (w .entry)) ⌝ }
-{
-    let m = ncols + 1;
-    find_starts(cols, &mut w[..m], p);
-    clear(m, w);
 }
 
 // The rows into the front of i.
@@ -76,14 +63,12 @@ pub fn as_given(
     p: &mut [u32],
     i: &mut [u32],
     v: &mut [f64],
-    w: &mut [u32],
 )
-    requires { ⌜ (let t = triplets nrows ncols (now irows) (now icols) (now vals) in Sound t × Room t (stored (now p) (now i) (now v)) × Blank (ncols + 1) (now w)) ⌝ }
+    requires { ⌜ (let t = triplets nrows ncols (now irows) (now icols) (now vals) in Sound t × Ordered (t .i) (t .j) × Room t (stored (now p) (now i) (now v))) ⌝ }
     ensures { λ _. ⌜ (let t = triplets nrows ncols (now (irows .entry)) (now (icols .entry)) (now (vals .entry)) in
-        let old = stored (now (p .entry)) (now (i .entry)) (now (v .entry)) in
-        (stored (now (p .exit)) (now (i .exit)) (now (v .exit)) ≡ written (asGiven t) old) × (now (w .exit) ≡ now (w .entry))) ⌝ }
+        stored (now (p .exit)) (now (i .exit)) (now (v .exit)) ≡ written (asGiven t) (stored (now (p .entry)) (now (i .entry)) (now (v .entry)))) ⌝ }
 {
-    pointers(ncols, icols, p, w);
+    pointers(ncols, icols, p);
     copy(irows, i);
     copy_values(vals, v);
 }

@@ -2,7 +2,7 @@
 use mathlib.Core.Path.{_≡_, refl, sym, ap as cong, _∙_}
 use mathlib.Core.Bool.{Bool, true, false, not, cond, _&&_, _||_}
 use mathlib.Core.List.{List, [], _∷_, map}
-use Prim.Native.Nat.{ℕ, zero, suc, _+_, _-_, _*_, _≤_, _<_, max}
+use Prim.Native.Nat.{ℕ, zero, suc, _+_, _-_, _*_, _≤_, _<_, min, max}
 use native.Mathlib.Omega.{arith}
 use lib.Dec.{ltb, eqb}
 use lib.Ieee.{Float, nan}
@@ -12,21 +12,22 @@ use borrow.Author.Tests.{eqb-true}
 use Rattle.lists.specs.Calls.{lowest, none, narrow, Scratch, scratch, cleared, wiped, Lent, lent, outputs, worked, leaves}
 use Rattle.lists.specs.Choices.{chosen}
 use Rattle.lists.specs.Parts.{part, placed}
-use Rattle.lists.proofs.Bools.{not-holds}
+use Rattle.lists.proofs.Bools.{not-holds, failed}
 use Rattle.lists.proofs.Calls.{first, then, early, kept, late, done, left-alone, left-written, wiped-each, not-narrow}
 use Rattle.lists.proofs.Clearing.{length-cleared, cleared-front, cleared-same, cleared-again}
 use Rattle.lists.proofs.Laying.{part-long}
 use Rattle.lists.proofs.Parts.{length-part, getD-part, length-placed}
-use Rattle.lists.proofs.Scratches.{part-clean, clean-again}
+use Rattle.lists.proofs.Returning.{front-zeros, cleared-after}
 use Rattle.lists.proofs.Tables.{length-table}
-use Rattle.cs_matrix.specs.Matrix.{Matrix, matrix, Stored, stored, column, short, written, Valid}
+use Rattle.cs_matrix.specs.Matrix.{pattern, Matrix, matrix, Stored, stored, column, short, written, Valid}
 use Rattle.cs_matrix.proofs.Pointers.{Between, between, column-is, length-column, getD-column}
 use Rattle.cs_columns.specs.Columns.{joined, withColumns, withEntries, laid, judgedTwo, shortFor}
 use Rattle.cs_columns.proofs.Filling.{Filling, filling-start, filling-turn, filling-end, filling-at, filling-i, filling-v, room-i, room-v, room-p, room-all}
 use Rattle.cs_columns.proofs.Joining.{joined-none, length-more, joined-alike, entries-within, entries-valid}
-use Rattle.cs_columns.proofs.Judging.{early-two, Passed, passed, Roomy, roomy, short-for}
+use Rattle.cs_columns.proofs.Judging.{early-two, Passed, passed, Roomy, roomy, short-fewer, short-for}
 use Rattle.cs_product.specs.Product.{accumulated, remains, rowOf, valueOf, product, neededTwo, number}
-use Rattle.cs_product.specs.Steps.{columnOf, size, Fresh, Starting, Column, Begun, Ready, Clean}
+use Rattle.cs_product.specs.Steps.{columnOf, Within, Spanned, size, Fresh, Starting, Column, Operands, Begun, Ready, Clean}
+use Rattle.cs_product.proofs.Spanning.{column-few}
 
 module _ (nrows ncols : ℕ) (ap ai : List ℕ) (av : List Float) (bncols : ℕ) (bp bi : List ℕ) (bv : List Float) where
   abbrev a : Matrix
@@ -60,7 +61,7 @@ module _ (nrows ncols : ℕ) (ap ai : List ℕ) (av : List Float) (bncols : ℕ)
         (second .pattern .below (getD bp j 0 + q) (omega (arith, n, f, g, handed .inside)))
 
     starting : {stamp : ℕ} {mark met : List ℕ} {x : List Float} → Valid a → Fresh nrows stamp mark met x → Starting a stamp (part s e bi) (part s e bv) mark met x
-    starting v r = record { valid = v; alike = omega (arith, length-part s e bv in-bv, length-part s e bi (handed .inside)); below = column-below; fresh = r }
+    starting v r = record { valid = v; alike = omega (arith, length-part s e bv in-bv, length-part s e bi (handed .inside)); few = omega (arith, length-part s e bi (handed .inside), handed .inside, second .pattern .entries); below = column-below; fresh = r }
 
     column-same : columnOf a (part s e bi) (part s e bv) ≡ accumulated a b j
     unfolding columnOf accumulated
@@ -109,6 +110,63 @@ module _ (nrows ncols : ℕ) (ap ai : List ℕ) (av : List Float) (bncols : ℕ)
         let e : j ≡ bncols = omega (arith, t .within) in
         let u = t .begun .fresh in
         (t .is ∙ cong (λ (k : ℕ). length (joined rows k)) e ∙ sym size-is, rw e at u)
+
+  -- ---- `bound`
+  pub record Bounding (most j : ℕ) : Type 0 where
+    pub ask : Operands a b
+    pub within : j ≤ bncols
+    pub enough : length (joined rows j) ≤ most
+    pub small : most ≤ 65535 * j
+
+  pub bounding-start : Operands a b → Bounding 0 0
+  bounding-start v = record { ask = v; within = omega arith; enough = omega (arith, cong length (joined-none rows)); small = omega arith }
+
+  module _ {most j : ℕ} (t : Bounding most j) where
+    module _ (h : j < bncols) {s e : ℕ} (f : s ≡ getD bp j 0) (g : e ≡ getD bp (j + 1) 0) where
+      pub bounding-handed : Between bp (length bi) j s e
+      bounding-handed = handed (t .ask .second) h f g
+
+      pub bounding-asks : Within (pattern nrows ncols ap ai) (part s e bi)
+      bounding-asks =
+          record {
+            valid = t .ask .first .pattern;
+            few = omega (arith, length-part s e bi (bounding-handed .inside), bounding-handed .inside, t .ask .second .pattern .entries);
+            below = column-below (t .ask .second) h f g;
+          }
+
+      module _ {lo hi work : ℕ} (q : Spanned (pattern nrows ncols ap ai) (part s e bi) lo hi work) {r : ℕ} (m : r ≡ min (hi - lo) work) where
+        r-small : r ≤ 65535
+        r-small = omega (arith, q .inside, t .ask .first .pattern .rows)
+
+        pub bounding-small : most + r ≤ 4294901760
+        bounding-small = omega (arith, r-small, t .small, t .ask .second .pattern .cols)
+
+        pub bounding-turn : Bounding (most + r) (j + 1)
+        bounding-turn =
+            let w = column-few a q (part s e bv) (omega (arith, length-part s e bv (in-bv (t .ask .second) h f g), length-part s e bi (bounding-handed .inside))) in
+            record {
+              ask = t .ask;
+              within = omega arith;
+              enough = omega (arith, w, t .enough, cong length (rows-are (t .ask .second) h f g), length-more rows j);
+              small = omega (arith, r-small, t .small);
+            }
+
+    pub bounding-done : bncols ≤ j → size a b ≤ most
+    bounding-done h = let e : j ≡ bncols = omega (arith, t .within) in let l = t .enough in rw size-is (rw e at l)
+
+  -- ---- `lacks_room`
+  module _ {mark met : List ℕ} {x : List Float} (v : Begun a b 1 mark met x) where
+    pub operands : Operands a b
+    operands = record { first = v .first; second = v .second }
+
+    later : Fresh nrows (bncols + 1) mark met x
+    later = record { small = v .fresh .small; mark-long = v .fresh .mark-long; met-long = v .fresh .met-long; unmarked = λ r h. omega (arith, v .fresh .unmarked r h); zeros = v .fresh .zeros }
+
+    pub bound-fits : (p i w : ℕ) {t : Bool} {most : ℕ} → size a b ≤ most → t ≡ shortFor bncols most p i w → not t ≡ true → (false ≡ shortFor bncols (size a b) p i w) × Fresh nrows (bncols + 1) mark met x
+    bound-fits p i w {most = most} l e h = (sym (short-fewer bncols most (size a b) p i w (failed e h) l), later)
+
+  pub room-counted : (p i w : ℕ) {t : Bool} {entries : ℕ} → entries ≡ size a b → t ≡ shortFor bncols entries p i w → t ≡ shortFor bncols (size a b) p i w
+  room-counted p i w f e = rw f at e
 
   -- ---- `fill`
   pub record Writing (op₀ oi₀ : List ℕ) (ov₀ : List Float) (mark met spare : List ℕ) (x : List Float) (op oi : List ℕ) (ov : List Float) (at j : ℕ) : Type 0 where
@@ -213,19 +271,19 @@ module _ (nrows ncols : ℕ) (ap ai : List ℕ) (av : List Float) (bncols : ℕ)
           fresh = fresh-of (c .first .pattern .rows) (rw (c .mark-is) (length-replicate nrows 0)) (c .met-long) (λ r h. rw (c .mark-is) (getD-replicate nrows r 0 0 h)) (c .zeros);
         }
 
-    module _ (old : Stored) {entries : ℕ} (e : entries ≡ size a b) {t : Bool} (g : t ≡ shortFor bncols entries (length (old .p)) (length (old .i)) (length (old .v))) where
+    module _ (old : Stored) {t : Bool} (g : t ≡ shortFor bncols (size a b) (length (old .p)) (length (old .i)) (length (old .v))) where
       abbrev pub Served : ℕ → Stored → Type 0
       Served r new = (r ≡ lowest ((7, short (product a b) old) ∷ [])) × (new ≡ outputs r (written (product a b) old) old) × (r ≡ 0 → Valid (product a b))
 
       short-is : short (product a b) old ≡ t
-      short-is = short-for (product a b) old bncols entries p-long (i-long ∙ sym e) (v-long ∙ sym e) ∙ sym g
+      short-is = short-for (product a b) old bncols (size a b) p-long i-long v-long ∙ sym g
 
       pub at-7 : t ≡ true → Served 7 old
       at-7 h = (rw (short-is, h), left-alone 7 _ old (λ q. omega arith) (λ q. omega arith), λ q. absurd (omega arith))
 
       module _ (h : t ≡ false) where
-        room-is : Roomy bncols entries (length (old .p)) (length (old .i)) (length (old .v))
-        room-is = roomy bncols entries (length (old .p)) (length (old .i)) (length (old .v)) (sym g ∙ h)
+        room-is : Roomy bncols (size a b) (length (old .p)) (length (old .i)) (length (old .v))
+        room-is = roomy bncols (size a b) (length (old .p)) (length (old .i)) (length (old .v)) (sym g ∙ h)
 
         pub ready : {stamp : ℕ} {mark₁ mark₂ met₁ spare₁ : List ℕ} {x₁ : List Float} → Fresh nrows stamp mark₁ met₁ x₁ → mark₂ ≡ cleared 0 nrows mark₁ → length spare₁ ≡ length spare → Ready a b mark₂ met₁ spare₁ x₁ old
         ready {mark₁ = mark₁} f k l =
@@ -236,14 +294,14 @@ module _ (nrows ncols : ℕ) (ap ai : List ℕ) (av : List Float) (bncols : ℕ)
                 fresh = fresh-of (c .first .pattern .rows) (rw k (length-cleared 0 nrows mark₁ ∙ f .mark-long)) (f .met-long) (λ r q. rw k (cleared-front 0 nrows mark₁ r q)) (f .zeros);
               };
               spare-long = l ∙ c .spare-long;
-              few = omega (arith, e, room-is .few);
+              few = room-is .few;
               in-p = room-is .in-p;
-              in-i = omega (arith, e, room-is .in-i);
-              in-v = omega (arith, e, room-is .in-v);
+              in-i = room-is .in-i;
+              in-v = room-is .in-v;
             }
 
         pub at-end : {o : Stored} → o ≡ written (product a b) old → Served 0 o
-        at-end f = (rw (short-is, h), left-written _ old f, λ q. product-valid (c .first .pattern .rows) (c .second .pattern .cols) (omega (arith, e, room-is .few)))
+        at-end f = (rw (short-is, h), left-written _ old f, λ q. product-valid (c .first .pattern .rows) (c .second .pattern .cols) (room-is .few))
 
 -- ---- the scratch that a part was lent of
 module _ (n need : ℕ) (g : n ≤ need) (work : Scratch) {t : Bool} (f : t ≡ narrow need work) (h : t ≡ false) {s : Scratch} (q : s ≡ wiped need work) where
@@ -281,10 +339,10 @@ module _ (n need : ℕ) (g : n ≤ need) (work : Scratch) {t : Bool} (f : t ≡ 
   wiped-again y1 y2 y3 z a b c d e =
       e
       ∙ wiped-each need work
-      (clean-again 0 n need (s .w1) y1 g w1-long a ∙ (rw w1-is (cleared-again 0 need (work .w1))))
-      (clean-again 0 n need (s .w2) y2 g w2-long b ∙ (rw w2-is (cleared-again 0 need (work .w2))))
-      (clean-again 0 n need (s .w3) y3 g w3-long c ∙ (rw w3-is (cleared-again 0 need (work .w3))))
-      (clean-again none n need (s .x) z g x-long d ∙ (rw x-is (cleared-again none need (work .x))))
+      (cleared-after 0 n need (s .w1) y1 g (omega (arith, g, w1-long)) a ∙ (rw w1-is (cleared-again 0 need (work .w1))))
+      (cleared-after 0 n need (s .w2) y2 g (omega (arith, g, w2-long)) b ∙ (rw w2-is (cleared-again 0 need (work .w2))))
+      (cleared-after 0 n need (s .w3) y3 g (omega (arith, g, w3-long)) c ∙ (rw w3-is (cleared-again 0 need (work .w3))))
+      (cleared-after none n need (s .x) z g (omega (arith, g, x-long)) d ∙ (rw x-is (cleared-again none need (work .x))))
 
 -- wiping keeps the lengths
 module _ (need : ℕ) (work : Scratch) {s : Scratch} (q : s ≡ wiped need work) where
@@ -380,10 +438,10 @@ module _ (n m : ℕ) (pa ia : List ℕ) (va : List Float) (k l : ℕ) (pb ib : L
               record {
                 first = pass .first;
                 second = rw same (pass .second);
-                mark-is = rw (w1-is n (m3 + 1) n-in (old .work) ft h q) (part-clean 0 n (m3 + 1) (old .work .w1) n-in (not-narrow (m3 + 1) (old .work) (sym ft ∙ h) .in-w1));
+                mark-is = rw (w1-is n (m3 + 1) n-in (old .work) ft h q) (front-zeros 0 n (m3 + 1) (old .work .w1) n-in (not-narrow (m3 + 1) (old .work) (sym ft ∙ h) .in-w1));
                 met-long = part-long n (s .w2) in-w2;
                 spare-long = part-long n (s .w3) in-w3;
-                zeros = rw (x-is n (m3 + 1) n-in (old .work) ft h q) (part-clean none n (m3 + 1) (old .work .x) n-in (not-narrow (m3 + 1) (old .work) (sym ft ∙ h) .in-x));
+                zeros = rw (x-is n (m3 + 1) n-in (old .work) ft h q) (front-zeros none n (m3 + 1) (old .work .x) n-in (not-narrow (m3 + 1) (old .work) (sym ft ∙ h) .in-x));
               }
 
           module _ (y1 y2 y3 : List ℕ) (y4 : List Float) (e1 : length y1 ≡ length (part 0 n (s .w1))) (e2 : length y2 ≡ length (part 0 n (s .w2))) (e3 : length y3 ≡ length (part 0 n (s .w3))) (e4 : length y4 ≡ length (part 0 n (s .x)))

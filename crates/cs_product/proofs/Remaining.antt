@@ -29,7 +29,7 @@ zero-is : eq none none ≡ true
 unfolding eq ofBits
 zero-is = refl
 
-dropped : (x : List Float) (r : ℕ) → getD x r nan ≡ none → remains x r ≡ false
+pub dropped : (x : List Float) (r : ℕ) → getD x r nan ≡ none → remains x r ≡ false
 unfolding remains
 dropped x r e = rw e (ap not zero-is)
 

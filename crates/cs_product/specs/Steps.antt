@@ -7,9 +7,9 @@ use lib.Ieee.{Float, nan}
 use lib.ListN.{length, getD, take, replicate}
 use Rattle.lists.specs.Calls.{none}
 use Rattle.lists.specs.Choices.{chosen, keep}
-use Rattle.lists.specs.Folds.{over}
+use Rattle.lists.specs.Folds.{along, over}
 use Rattle.lists.specs.Order.{lists, rises, Once}
-use Rattle.cs_matrix.specs.Matrix.{Matrix, Stored, Valid}
+use Rattle.cs_matrix.specs.Matrix.{Pattern, Matrix, Stored, column, ValidPattern, Valid}
 use Rattle.cs_columns.specs.Columns.{either, joined}
 use Rattle.cs_product.specs.Product.{addColumn, rowOf, remains}
 
@@ -45,6 +45,7 @@ pub record Adding (n stamp : ℕ) (rows : List ℕ) (vals : List Float) (mark me
 pub record Starting (a : Matrix) (stamp : ℕ) (rows : List ℕ) (vals : List Float) (mark met : List ℕ) (x : List Float) : Type 0 where
   pub valid : Valid a
   pub alike : length vals ≡ length rows
+  pub few : length rows ≤ 4194304
   pub below : (k : ℕ) → k < length rows → getD rows k 0 < a .pattern .ncols
   pub fresh : Fresh (a .pattern .nrows) stamp mark met x
 
@@ -88,7 +89,7 @@ unfoldable pub columnOf : Matrix → List ℕ → List Float → List Float
 unfolding addColumn
 columnOf a rows vals = over (addColumn a) rows vals (replicate (a .pattern .nrows) none)
 
--- what `write_column` asks: as `accumulate`, a spare slice, and room for what remains, from `start` on
+-- what `write_column` and `write_listed` ask: as `accumulate`, a spare slice, and room for what remains, from `start` on
 pub record Column (a : Matrix) (stamp : ℕ) (rows : List ℕ) (vals : List Float) (start : ℕ) (mark met spare : List ℕ) (x : List Float) (oi : List ℕ) (ov : List Float) : Type 0 where
   pub starting : Starting a stamp rows vals mark met x
   pub spare-long : length spare ≡ a .pattern .nrows
@@ -96,7 +97,70 @@ pub record Column (a : Matrix) (stamp : ℕ) (rows : List ℕ) (vals : List Floa
   pub in-i : start + length (chosen (a .pattern .nrows) (remains (columnOf a rows vals))) ≤ length oi
   pub in-v : start + length (chosen (a .pattern .nrows) (remains (columnOf a rows vals))) ≤ length ov
 
--- ---- two valid matrices, and scratch for their columns
+-- ---- the rows that a column of the product can have
+-- what `span_of` asks: columns of A
+pub record Within (a : Pattern) (cols : List ℕ) : Type 0 where
+  pub valid : ValidPattern a
+  pub few : length cols ≤ 4194304
+  pub below : (k : ℕ) → k < length cols → getD cols k 0 < a .ncols
+
+-- how many entries they have
+unfoldable pub workOf : Pattern → List ℕ → ℕ
+workOf a cols = along (λ c n. n + length (column (a .p) c (a .i))) cols 0
+
+-- their rows are not below lo, and below hi
+pub record Spanned (a : Pattern) (cols : List ℕ) (lo hi work : ℕ) : Type 0 where
+  pub order : lo ≤ hi
+  pub inside : hi ≤ a .nrows
+  pub low : (k : ℕ) → k < length cols → (q : ℕ) → q < length (column (a .p) (getD cols k 0) (a .i)) → lo ≤ getD (column (a .p) (getD cols k 0) (a .i)) q 0
+  pub high : (k : ℕ) → k < length cols → (q : ℕ) → q < length (column (a .p) (getD cols k 0) (a .i)) → getD (column (a .p) (getD cols k 0) (a .i)) q 0 < hi
+  pub work-is : work ≡ workOf a cols
+  pub work-small : work ≤ 17592186044416
+
+-- ---- a column of the product without marks
+-- what `add_plain` asks: a column of A, and x
+pub record Addable (n : ℕ) (rows : List ℕ) (vals x : List Float) : Type 0 where
+  pub small : n ≤ 65535
+  pub alike : length vals ≡ length rows
+  pub below : (k : ℕ) → k < length rows → getD rows k 0 < n
+  pub rise : rises rows ≡ true
+  pub x-long : length x ≡ n
+
+-- what `accumulate_plain` asks: A, a column of B, and x
+pub record Plain (a : Matrix) (rows : List ℕ) (vals x : List Float) : Type 0 where
+  pub valid : Valid a
+  pub alike : length vals ≡ length rows
+  pub below : (k : ℕ) → k < length rows → getD rows k 0 < a .pattern .ncols
+  pub x-long : length x ≡ a .pattern .nrows
+
+-- what `sweep` asks: x is +0.0 below lo and from hi on, and room for what remains of it, from `start` on
+pub record Swept (n lo hi start : ℕ) (x : List Float) (oi : List ℕ) (ov : List Float) : Type 0 where
+  pub small : n ≤ 65535
+  pub order : lo ≤ hi
+  pub inside : hi ≤ n
+  pub x-long : length x ≡ n
+  pub below : (r : ℕ) → r < lo → getD x r nan ≡ none
+  pub behind : (r : ℕ) → hi ≤ r → r < n → getD x r nan ≡ none
+  pub few : start + length (chosen n (remains x)) ≤ 4194304
+  pub in-i : start + length (chosen n (remains x)) ≤ length oi
+  pub in-v : start + length (chosen n (remains x)) ≤ length ov
+
+-- what `write_dense` asks: a column whose span is known, x all +0.0, and room for what remains, from `start` on
+pub record Dense (a : Matrix) (rows : List ℕ) (vals : List Float) (lo hi start : ℕ) (x : List Float) (oi : List ℕ) (ov : List Float) : Type 0 where
+  pub plain : Plain a rows vals x
+  pub work : ℕ
+  pub spanned : Spanned (a .pattern) rows lo hi work
+  pub zeros : x ≡ replicate (a .pattern .nrows) none
+  pub few : start + length (chosen (a .pattern .nrows) (remains (columnOf a rows vals))) ≤ 4194304
+  pub in-i : start + length (chosen (a .pattern .nrows) (remains (columnOf a rows vals))) ≤ length oi
+  pub in-v : start + length (chosen (a .pattern .nrows) (remains (columnOf a rows vals))) ≤ length ov
+
+-- ---- two valid matrices
+pub record Operands (a b : Matrix) : Type 0 where
+  pub first : Valid a
+  pub second : Valid b
+
+-- and scratch for their columns
 pub record Begun (a b : Matrix) (stamp : ℕ) (mark met : List ℕ) (x : List Float) : Type 0 where
   pub first : Valid a
   pub second : Valid b

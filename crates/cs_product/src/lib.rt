@@ -2,5 +2,9 @@
 mod accumulate;
 mod columns;
 mod gather;
+mod plain;
 pub mod product;
+mod room;
 mod sorting;
+mod span;
+mod sweep;

@@ -1,61 +1,18 @@
-// The product: both operands are judged, what remains is counted column by column, then written column by column.
+// The product: both operands are judged, the room for what remains of them too, then that is written column by column.
 ghost use mathlib.Core.List.{[], _∷_};
 ghost use mathlib.Core.Path.{_≡_};
-ghost use Prim.Native.Nat.{_+_};
 ghost use Rattle.lists.specs.Calls.{lowest, outputs, leaves, lent, scratch};
 ghost use Rattle.cs_matrix.specs.Matrix.{matrix, stored, short, written, Valid};
 ghost use Rattle.cs_product.specs.Product.{product as productOf, neededTwo, number};
-ghost use Rattle.cs_product.specs.Steps.{size, Fresh, Begun, Ready, Clean};
-use crate::columns::count_column;
+ghost use Rattle.cs_product.specs.Steps.{Ready, Clean};
 use crate::columns::write_column;
+use crate::room::lacks_room;
 use cs_columns::judge::check_two;
-use cs_columns::judge::no_room;
 use lists::clear::clear;
 use lists::clear::clear_scratch;
 use lists::clear::too_narrow;
 use lists::numbers::larger;
 use lists::numbers::wide;
-
-// The number of entries that remain.
-fn count(
-    nrows: usize,
-    ncols: usize,
-    ap: &[u32],
-    ai: &[u32],
-    av: &[f64],
-    bncols: usize,
-    bp: &[u32],
-    bi: &[u32],
-    bv: &[f64],
-    mark: &mut [u32],
-    met: &mut [u32],
-    x: &mut [f64],
-) -> usize
-    requires { ⌜ Begun (matrix nrows ncols (now ap) (now ai) (now av)) (matrix ncols bncols (now bp) (now bi) (now bv)) 1 (now mark) (now met) (now x) ⌝ }
-    ensures { λ r. ⌜ (let a = matrix nrows ncols (now (ap .entry)) (now (ai .entry)) (now (av .entry)) in
-        let b = matrix ncols bncols (now (bp .entry)) (now (bi .entry)) (now (bv .entry)) in
-        (r ≡ size a b) × Fresh nrows (bncols + 1) (now (mark .exit)) (now (met .exit)) (now (x .exit))) ⌝ }
-{
-    let mut entries = 0;
-    for j in 0..bncols {
-        let a = wide(bp[j]);
-        let e = wide(bp[j + 1]);
-        entries += count_column(
-            nrows,
-            ncols,
-            ap,
-            ai,
-            av,
-            (j + 1) as u32,
-            &bi[a..e],
-            &bv[a..e],
-            mark,
-            met,
-            x,
-        );
-    }
-    entries
-}
 
 // The product, into outputs that have room.
 fn fill(
@@ -133,8 +90,23 @@ fn serve(
         let new = stored (now (op .exit)) (now (oi .exit)) (now (ov .exit)) in
         (r ≡ lowest ((7, short (productOf a b) old) ∷ [])) × (new ≡ outputs r (written (productOf a b) old) old) × (r ≡ 0 → Valid (productOf a b))) ⌝ }
 {
-    let entries = count(nrows, ncols, ap, ai, av, bncols, bp, bi, bv, mark, met, x);
-    if no_room(bncols, entries, op.len(), oi.len(), ov.len()) {
+    if lacks_room(
+        nrows,
+        ncols,
+        ap,
+        ai,
+        av,
+        bncols,
+        bp,
+        bi,
+        bv,
+        op.len(),
+        oi.len(),
+        ov.len(),
+        mark,
+        met,
+        x,
+    ) {
         return 7;
     }
     clear(nrows, mark);

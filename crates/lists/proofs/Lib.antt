@@ -28,6 +28,5 @@ pub mod Skipping
 pub mod HowMany
 pub mod Onces
 pub mod Kept
-pub mod Scratches
 pub mod Runs
 pub mod Positions

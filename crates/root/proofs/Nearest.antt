@@ -42,7 +42,7 @@ no-larger m p q h k l = omega (arith, mul-le-mul {n₁ = q + 1} {m₁ = q + 1} {
 pub is-largest : {m q : ℕ} → q * q ≤ m → m < (q + 1) * (q + 1) → Largest m q
 is-largest {m} {q} l h = record { square = l; most = λ p k. omega (arith, no-larger m p q k h) }
 
-next-over : {m q : ℕ} → Largest m q → m < (q + 1) * (q + 1)
+pub next-over : {m q : ℕ} → Largest m q → m < (q + 1) * (q + 1)
 next-over {m} {q} l = lt-of-not-le (λ (g : (q + 1) * (q + 1) ≤ m). lt-irrefl q (omega (arith, l .most (q + 1) g)))
 
 pub only : {m p q : ℕ} → Largest m p → Largest m q → p ≡ q

@@ -1,2 +1,3 @@
 -- The laws of the engine, which only its own proof names.
 mod Turns
+mod Division

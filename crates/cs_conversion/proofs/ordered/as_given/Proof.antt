@@ -1,18 +1,18 @@
 -- `as_given` meets its contract. Assumes nothing.
 use native.Mathlib.Omega.{arith}
 use borrow.Author.Needs.{needs}
-use Rattle.cs_conversion.proofs.InOrder.{given-written}
+use Rattle.cs_conversion.proofs.InOrder.{placed, given-written}
 use Rattle.cs_conversion.proofs.ordered.as_given.Statement.{statement}
 use Rattle.cs_conversion.proofs.ordered.as_given.Tie as tie
 
 pointers-requires : tie.Need-pointers-requires
-pointers-requires c κs = (omega (arith, c .before .before .before .before .before .before .before .before .before .pre .0 .count, c .before .before .before .before .before .before .before .before .before .pre .0 .j-long), c .before .before .before .before .before .before .before .before .before .pre .1 .p-long, c .before .before .before .before .before .before .before .before .before .pre .2)
+pointers-requires c κs = (c .before .before .before .before .before .before .before .pre .1 .columns, placed (c .before .before .before .before .before .before .before .pre .0), c .before .before .before .before .before .before .before .pre .2 .p-long)
 
 copy-requires : tie.Need-copy-requires
-copy-requires c κs = c .before .before .before .before .before .before .before .before .before .before .before .before .before .before .before .pre .1 .i-long
+copy-requires c κs = c .before .before .before .before .before .before .before .before .before .before .before .pre .2 .i-long
 
 copy-values-requires : tie.Need-copy-values-requires
-copy-values-requires c κs = omega (arith, c .before .before .before .before .before .before .before .before .before .before .before .before .before .before .before .before .before .before .before .pre .1 .v-long, c .before .before .before .before .before .before .before .before .before .before .before .before .before .before .before .before .before .before .before .pre .0 .v-long)
+copy-values-requires c κs = omega (arith, c .before .before .before .before .before .before .before .before .before .before .before .before .before .before .before .pre .2 .v-long, c .before .before .before .before .before .before .before .before .before .before .before .before .before .before .before .pre .0 .v-long)
 
 same-length : tie.Need-same-length
 same-length c = search needs
@@ -23,11 +23,8 @@ same-length-2 c = search needs
 same-length-3 : tie.Need-same-length-3
 same-length-3 c = search needs
 
-same-length-4 : tie.Need-same-length-4
-same-length-4 c = search needs
-
 returns : tie.Need-returns
-returns c = (given-written _ _ (c .before .before .before .before .before .before .before .before .before .before .before .before .pointers .ensures .0) (c .before .before .before .before .before .before .copy .ensures) (c .before .before .copy-values .ensures), c .before .before .before .before .before .before .before .before .before .before .before .before .pointers .ensures .1)
+returns c = given-written _ _ (c .before .before .before .before .before .before .before .before .before .before .pointers .ensures) (c .before .before .before .before .before .before .copy .ensures) (c .before .before .copy-values .ensures)
 
 pub as-given-spec : {M : Type 1} → statement M
 as-given-spec =
@@ -39,5 +36,4 @@ as-given-spec =
     same-length
     same-length-2
     same-length-3
-    same-length-4
     returns)

@@ -4,7 +4,7 @@ use Prim.Native.Nat.{_-_}
 use native.Mathlib.Omega.{arith}
 use lib.ListN.{length}
 use borrow.Author.Needs.{needs}
-use Rattle.cs_conversion.proofs.InOrder.{Watching, watching-start, watching-falls, watching-turn, watching-done, in-cols, last-fits, here-fits}
+use Rattle.cs_conversion.proofs.InOrder.{Watching, watching-start, watching-falls, watching-turn, watching-done, in-cols, last-small, here-small}
 use Rattle.cs_conversion.proofs.ordered.in_order.Statement.{statement}
 use Rattle.cs_conversion.proofs.ordered.in_order.Tie as tie
 
@@ -27,7 +27,7 @@ shared-slice-read-last : tie.Need-shared-slice-read-last Inv-loop μ-loop
 shared-slice-read-last c = omega (arith, in-cols (c .before .before .loop .inv) (c .before .loop-test .taken))
 
 mul-last-2 : tie.Need-mul-last-2 Inv-loop μ-loop
-mul-last-2 c = omega (arith, last-fits (c .before .before .loop .inv) (c .before .loop-test .taken))
+mul-last-2 c = omega (arith, last-small (c .before .before .loop .inv) (c .before .loop-test .taken))
 
 sub-last-2 : tie.Need-sub-last-2 Inv-loop μ-loop
 sub-last-2 c = omega (arith, c .before .before .loop .inv .first)
@@ -39,7 +39,7 @@ shared-slice-read-last-2 : tie.Need-shared-slice-read-last-2 Inv-loop μ-loop
 shared-slice-read-last-2 c = omega (arith, c .before .before .loop-test .taken)
 
 add-last : tie.Need-add-last Inv-loop μ-loop
-add-last c = omega (arith, last-fits (c .before .before .before .loop .inv) (c .before .before .loop-test .taken))
+add-last c = omega (arith, last-small (c .before .before .before .loop .inv) (c .before .before .loop-test .taken))
 
 mul-if1 : tie.Need-mul-if1 Inv-loop μ-loop
 mul-if1 c = search needs
@@ -48,7 +48,7 @@ shared-slice-read-if1 : tie.Need-shared-slice-read-if1 Inv-loop μ-loop
 shared-slice-read-if1 c = in-cols (c .before .before .before .before .loop .inv) (c .before .before .before .loop-test .taken)
 
 mul-if1-2 : tie.Need-mul-if1-2 Inv-loop μ-loop
-mul-if1-2 c = omega (arith, here-fits (c .before .before .before .before .loop .inv) (c .before .before .before .loop-test .taken))
+mul-if1-2 c = omega (arith, here-small (c .before .before .before .before .loop .inv) (c .before .before .before .loop-test .taken))
 
 mul-if1-3 : tie.Need-mul-if1-3 Inv-loop μ-loop
 mul-if1-3 c = search needs
@@ -57,7 +57,7 @@ shared-slice-read-if1-2 : tie.Need-shared-slice-read-if1-2 Inv-loop μ-loop
 shared-slice-read-if1-2 c = omega (arith, c .before .before .before .before .loop-test .taken)
 
 add-if1 : tie.Need-add-if1 Inv-loop μ-loop
-add-if1 c = omega (arith, here-fits (c .before .before .before .before .before .loop .inv) (c .before .before .before .before .loop-test .taken))
+add-if1 c = omega (arith, here-small (c .before .before .before .before .before .loop .inv) (c .before .before .before .before .loop-test .taken))
 
 add-k : tie.Need-add-k Inv-loop μ-loop
 add-k c = search needs

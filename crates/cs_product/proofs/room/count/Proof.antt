@@ -3,8 +3,8 @@ use Prim.Native.Nat.{_-_}
 use native.Mathlib.Omega.{arith}
 use Rattle.cs_product.proofs.Produced.{Tallying, tallying-start, tallying-handed, tallying-bv, tallying-asks, tallying-small, tallying-turn, tallying-done}
 use Rattle.cs_product.proofs.Meeting.{x-long}
-use Rattle.cs_product.proofs.product.count.Statement.{statement}
-use Rattle.cs_product.proofs.product.count.Tie as tie
+use Rattle.cs_product.proofs.room.count.Statement.{statement}
+use Rattle.cs_product.proofs.room.count.Tie as tie
 
 abbrev Inv-loop : tie.InvT-loop
 Inv-loop nrows ncols ap ai av bncols bp bi bv mark₀ met₀ x₀ entries₀ j₀ mark met x entries j = Tallying nrows ncols ap ai av bncols bp bi bv mark met x entries j

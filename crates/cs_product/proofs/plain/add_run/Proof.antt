@@ -1,0 +1,69 @@
+-- `add_run`: the loop of lists/proofs/Runs.antt. Assumes nothing.
+use Prim.Native.Nat.{_-_}
+use lib.Ieee.{nan, binary64, add, mul}
+use lib.ListN.{length}
+use borrow.Author.Needs.{needs}
+use Rattle.lists.proofs.Runs.{Zipping, zipping-start, zipping-long, zipping-place, zipping-turn, zipping-done}
+use Rattle.cs_product.proofs.plain.add_run.Statement.{statement}
+use Rattle.cs_product.proofs.plain.add_run.Tie as tie
+
+abbrev Inv-loop : tie.InvT-loop
+Inv-loop beta vals x₀ z₀ x z = Zipping (λ a v. add binary64 a (mul binary64 v beta)) vals x₀ x z
+
+abbrev μ-loop : tie.MeasureT-loop
+μ-loop beta vals x₀ z₀ x z = length vals - z
+
+loop-holds : tie.Need-loop-holds Inv-loop μ-loop
+loop-holds c = zipping-start _ (c .pre)
+
+mul-x : tie.Need-mul-x Inv-loop μ-loop
+mul-x c = search needs
+
+slice-read-x : tie.Need-slice-read-x Inv-loop μ-loop
+slice-read-x c = zipping-place _ (c .before .before .loop .inv) (c .before .loop-test .taken)
+
+mul-x-2 : tie.Need-mul-x-2 Inv-loop μ-loop
+mul-x-2 c = search needs
+
+shared-slice-read-x : tie.Need-shared-slice-read-x Inv-loop μ-loop
+shared-slice-read-x c = search needs
+
+mul-x-3 : tie.Need-mul-x-3 Inv-loop μ-loop
+mul-x-3 c = search needs
+
+slice-write-x : tie.Need-slice-write-x Inv-loop μ-loop
+slice-write-x c = zipping-place _ (c .before .before .before .loop .inv) (c .before .before .loop-test .taken)
+
+add-z : tie.Need-add-z Inv-loop μ-loop
+add-z c = search needs
+
+loop-less : tie.Need-loop-less Inv-loop μ-loop
+loop-less c = search needs
+
+loop-again : tie.Need-loop-again Inv-loop μ-loop
+loop-again c = zipping-turn _ (c .before .before .before .loop .inv) nan nan (c .before .before .loop-test .taken)
+
+same-length : tie.Need-same-length Inv-loop μ-loop
+same-length c = zipping-long _ (c .before .loop .inv)
+
+returns : tie.Need-returns Inv-loop μ-loop
+returns c = zipping-done _ (c .before .loop .inv) (c .loop-test .left)
+
+pub add-run-spec : {M : Type 1} → statement M
+add-run-spec =
+    tie.close
+    (tie.spec
+    Inv-loop
+    μ-loop
+    loop-holds
+    mul-x
+    slice-read-x
+    mul-x-2
+    shared-slice-read-x
+    mul-x-3
+    slice-write-x
+    add-z
+    loop-less
+    loop-again
+    same-length
+    returns)
