@@ -6,4 +6,5 @@ pub mod Cutting
 pub mod Placed
 pub mod Turning
 pub mod Working
+pub mod Mirroring
 pub mod Ways

@@ -2,7 +2,7 @@
 use mathlib.Core.Path.{_≡_, refl, sym, ap, _∙_}
 use mathlib.Core.Bool.{Bool, true, false, not, cond, _&&_, _||_}
 use mathlib.Core.List.{List, [], _∷_, List·Memᴰ}
-use mathlib.Core.Logic.{⊎-elim}
+use mathlib.Core.Logic.{_⊎_, inl, inr, ⊎-elim}
 use Prim.Native.Nat.{ℕ, zero, suc, _+_, _-_, _≤_, _<_}
 use native.Mathlib.Omega.{arith}
 use lib.Dec.{ltb}
@@ -18,7 +18,8 @@ use Rattle.lists.proofs.Ordering.{rises-apart, member-lists}
 use Rattle.lists.proofs.Parts.{left-at, left-none}
 use Rattle.cs_matrix.specs.Matrix.{column}
 use Rattle.lists.proofs.Spots.{Spot, spot, member-at}
-use Rattle.cs_left.specs.Steps.{strayIn, Rises}
+use Rattle.cs_matrix.proofs.Pointers.{length-column, getD-column}
+use Rattle.cs_left.specs.Steps.{strayIn, Within, Rises, Mirrors, Sought, Seeks}
 use Rattle.cs_left.proofs.Within.{within-part}
 
 -- ---- `stray`: rows before q are no strays, and all that is held before `at` is below the rows from q on
@@ -121,11 +122,60 @@ module _ {n k a e s f : ℕ} {p i lp li : List ℕ} (v : Rises n p i × Rises n 
   pub stray-here : {r : Bool} → r ≡ strayIn k (part s f li) (part a e i) → strayAt p i lp li k ≡ r
   stray-here g = sym (g ∙ ap (λ (l : List ℕ). strayIn k l (part a e i)) held-are ∙ ap (strayIn k (column lp k li)) rows-are)
 
-  pub strays-found : Upward n (strayAt p i lp li) k → {r : Bool} → r ≡ strayIn k (part s f li) (part a e i) → r ≡ true → true ≡ some (chosen n (strayAt p i lp li))
-  strays-found w g j = sym (upward-found w h (stray-here g ∙ j) .found h .0)
+-- ---- `stray_at`: no row is a stray that is at or above the diagonal or has a place in L
+none-stray : (k : ℕ) (held rows : List ℕ) → ((q : ℕ) → q < length rows → (getD rows q 0 ≤ k) ⊎ List·Memᴰ (getD rows q 0) held) → false ≡ strayIn k held rows
+unfolding strayIn someOf
+none-stray k held [] h = refl
+none-stray k held (z ∷ rows) h =
+    let rest = none-stray k held rows (λ q g. h (suc q) (omega arith)) in
+    ⊎-elim (λ (g : z ≤ k). rw (le-ltb k z g) rest) (λ (m : List·Memᴰ z held). rw (member-lists z held m, and-false (ltb k z)) rest) (h 0 (omega arith))
 
-  pub strays-turn : Upward n (strayAt p i lp li) k → {r : Bool} → r ≡ strayIn k (part s f li) (part a e i) → r ≡ false → Upward n (strayAt p i lp li) (k + 1)
-  strays-turn w g j = upward-turn w h (stray-here g ∙ j)
+module _ {k : ℕ} {p i lp li next : List ℕ} (w : Seeks k p i lp li next) where
+  pub seeks-stored : Within k p i
+  seeks-stored = w .sought .stored .each k (w .here)
+
+  pub seeks-held : Within k lp li
+  seeks-held = w .sought .held .each k (w .here)
+
+  pub seeks-both : Rises (w .n) p i × Rises (w .n) lp li
+  seeks-both = (w .sought .stored, w .sought .held)
+
+  pub seeks-few : k + 1 ≤ 65535
+  seeks-few = omega (arith, w .here, w .sought .stored .few)
+
+  pub seeks-next : k < length next
+  seeks-next = omega (arith, w .here, w .sought .room)
+
+  -- all rows of the column are met
+  pub seeks-none : {a e : ℕ} → a ≡ getD next k 0 → e ≡ getD p (k + 1) 0 → a ≡ e → false ≡ strayIn k (column lp k li) (column p k i)
+  seeks-none f g h = none-stray k (column lp k li) (column p k i) each
+    where
+      each : (q : ℕ) → q < length (column p k i) → (getD (column p k i) q 0 ≤ k) ⊎ List·Memᴰ (getD (column p k i) q 0) (column lp k li)
+      each q m =
+          let l = length-column p k i (seeks-stored .inside) in
+          let y = getD p k 0 + q in
+          let d : getD (column p k i) q 0 ≡ getD i y 0 = getD-column p k i q 0 (omega arith) in
+          let z : getD i y 0 < w .n = w .sought .below y (omega (arith, seeks-stored .inside)) in
+          rw d
+          (⊎-elim
+          (λ (a : getD i y 0 ≤ k). inl a)
+          (λ (a : List·Memᴰ k (column p (getD i y 0) i)). ⊎-elim (λ (b : getD i y 0 ≤ k). inl b) (λ (b : k < getD i y 0). inr (w .sought .mirrored k (getD i y 0) z b a)) (le-or-lt (getD i y 0) k))
+          (w .mirrors .met k y (w .here) (omega arith) (omega arith)))
+
+-- ---- `some_stray`
+module _ {n k : ℕ} (p i lp li : List ℕ) (w : Upward n (strayAt p i lp li) k) (h : k < n) {r : Bool} (g : r ≡ strayAt p i lp li k) where
+  pub strays-found : r ≡ true → true ≡ some (chosen n (strayAt p i lp li))
+  strays-found j = sym (upward-found w h (sym g ∙ j) .found h .0)
+
+  pub strays-turn : r ≡ false → Upward n (strayAt p i lp li) (k + 1)
+  strays-turn j = upward-turn w h (sym g ∙ j)
 
 pub strays-end : {n : ℕ} (p i lp li : List ℕ) {k : ℕ} → Upward n (strayAt p i lp li) k → n ≤ k → false ≡ some (chosen n (strayAt p i lp li))
 strays-end p i lp li w h = sym (upward-end w h .none h)
+
+-- ---- the scratch that is sought with
+pub sought-kept : {n : ℕ} {p i lp li : List ℕ} {m l : ℕ} → l ≡ m → Sought n p i lp li m → Sought n p i lp li l
+sought-kept e w = rw e w
+
+pub seeks-at : {n k : ℕ} {p i lp li next : List ℕ} → Sought n p i lp li (length next) × Mirrors n p i next → k < n → Seeks k p i lp li next
+seeks-at {n} a h = record { n = n; here = h; sought = a .0; mirrors = a .1 }

@@ -29,16 +29,20 @@ use Rattle.cs_cholesky.proofs.Factoring.{factor-ends}
 use Rattle.cs_cholesky.proofs.Serving.{Passed, passed}
 use Rattle.cs_cholesky.proofs.Ways.{at-judge, at-refusal, at-end}
 use Rattle.cs_left.specs.Left.{left, leftStep, stray, strays, number}
-use Rattle.cs_left.specs.Steps.{strayIn, Rises, Asked}
+use Rattle.cs_left.specs.Steps.{strayIn, Sought, Asked}
 use Rattle.cs_left.proofs.Turning.{l-column, p-within, l-within}
 
 -- ---- 9, as it is told
 module _ {n : ℕ} {p i : List ℕ} {v : List Float} {up ui lp li : List ℕ} {room : ℕ} (S : Served n p i v up ui lp li room) where
-  pub strays-asks : Rises n p i × Rises n lp li
-  strays-asks = (
-    record { few = S .valid .pattern .cols; each = λ k h. p-within S h; rise = S .valid .pattern .rise },
-    record { few = S .valid .pattern .cols; each = λ k h. l-within S h; rise = λ k h. rw (l-column S h) (rising-rises (S .promised .rise k)) },
-  )
+  pub strays-asks : Sought n p i lp li n
+  strays-asks =
+      record {
+        stored = record { few = S .valid .pattern .cols; each = λ k h. p-within S h; rise = S .valid .pattern .rise };
+        held = record { few = S .valid .pattern .cols; each = λ k h. l-within S h; rise = λ k h. rw (l-column S h) (rising-rises (S .promised .rise k)) };
+        mirrored = λ r z h g m. rw (l-column S {k = r} (omega arith)) (S .promised .across r z .1 (S .promised .closed .stores r z (omega arith) (rw (column-at (pattern n n p i) z h) m)));
+        below = S .valid .pattern .below;
+        room = refl;
+      }
 
   pub strays-are : some (chosen n (λ k. strayIn k (column lp k li) (column p k i))) ≡ strays (matrix n n p i v)
   unfolding strays stray strayIn
@@ -112,6 +116,9 @@ module _ (nrows n : ℕ) (p i : List ℕ) (v : List Float) (tr up ui lp li : Lis
       pub way-w1 : n ≤ length w1a
       way-w1 = omega (arith, ap length w1-is, length-cleared 0 (n + 1) w1, P .wide .in-w1)
 
+      pub way-w2 : n ≤ length w2a
+      way-w2 = omega (arith, ap length w2-is, length-cleared 0 (n + 1) w2, P .wide .in-w2)
+
       pub way-x : n ≤ length xa
       way-x = omega (arith, ap length xa-is, length-cleared none (n + 1) x, P .wide .in-x)
 
@@ -121,18 +128,21 @@ module _ (nrows n : ℕ) (p i : List ℕ) (v : List Float) (tr up ui lp li : Lis
       pub way-x-long : (zs : List Float) → length zs ≡ length (part 0 n xa) → length (placed 0 n xa zs) ≡ length xa
       way-x-long zs l = back-long n xa zs way-x l
 
-      module _ {b : Bool} (g : b ≡ some (chosen n (λ k. strayIn k (column lp k li) (column p k i)))) where
+      module _ {b : Bool} {w2b : List ℕ} (g : (b ≡ some (chosen n (λ k. strayIn k (column lp k li) (column p k i)))) × (w2b ≡ cleared 0 (n + 1) w2a)) where
         stray-square : strays (matrix n n p i v) ≡ b
-        stray-square = sym (g ∙ strays-are (P .served))
+        stray-square = sym (g .0 ∙ strays-are (P .served))
+
+        w2-back : w2b ≡ w2a
+        w2-back = g .1 ∙ ap (cleared 0 (n + 1)) w2-is ∙ cleared-again 0 (n + 1) w2 ∙ sym w2-is
 
         stray-told : strays a ≡ b
         stray-told = ap (λ (m : ℕ). strays (matrix m n p i v)) (P .square) ∙ stray-square
 
-        pub way-stray : b ≡ true → {s : Factored} → s ≡ factored 9 0 none → Told s lx (scratch w1a w2a w3a xa)
+        pub way-stray : b ≡ true → {s : Factored} → s ≡ factored 9 0 none → Told s lx (scratch w1a w2b w3a xa)
         unfolding number
         way-stray q f =
             let u : 9 ≡ lowest rest = rw (stray-told ∙ q) refl in
-            rw f (at-refusal a given lx old rest t (left a) (e .0) h u (omega arith) (omega arith) clear-need)
+            rw (f, w2-back) (at-refusal a given lx old rest t (left a) (e .0) h u (omega arith) (omega arith) clear-need)
 
         module _ (q : b ≡ false) where
           pub way-asks : Asked n p i v up ui lp li (length lx) (part 0 n w1a) (part 0 n xa)
@@ -155,15 +165,15 @@ module _ (nrows n : ℕ) (p i : List ℕ) (v : List Float) (tr up ui lp li : Lis
 
           module _ {s1 : Factored} {lx1 : List Float} (r1 : (s1 ≡ left (matrix n n p i v) .answer) × (lx1 ≡ written (entries (upper (columns (pattern n n p i)))) (left (matrix n n p i v)) lx))
               (ys : List ℕ) (zs : List Float) (y-long : length ys ≡ length (part 0 n w1a)) (z-long : length zs ≡ length (part 0 n xa)) where
-            wiped-again : {s : Scratch} → s ≡ wiped (n + 1) (scratch (placed 0 n w1a ys) w2a w3a (placed 0 n xa zs)) → s ≡ wiped (needed (pattern nrows n p i)) old
+            wiped-again : {s : Scratch} → s ≡ wiped (n + 1) (scratch (placed 0 n w1a ys) w2b w3a (placed 0 n xa zs)) → s ≡ wiped (needed (pattern nrows n p i)) old
             unfolding wiped
             wiped-again c =
                 c
-                ∙ wiped-each (n + 1) old (again 0 n w1 ys (P .wide .in-w1) w1-is y-long) (ap (cleared 0 (n + 1)) w2-is ∙ cleared-again 0 (n + 1) w2) (ap (cleared 0 (n + 1)) w3-is ∙ cleared-again 0 (n + 1) w3)
+                ∙ wiped-each (n + 1) old (again 0 n w1 ys (P .wide .in-w1) w1-is y-long) (ap (cleared 0 (n + 1)) (w2-back ∙ w2-is) ∙ cleared-again 0 (n + 1) w2) (ap (cleared 0 (n + 1)) w3-is ∙ cleared-again 0 (n + 1) w3)
                 (again none n x zs (P .wide .in-x) xa-is z-long)
                 ∙ ap (λ (k : ℕ). wiped k old) (sym (P .need))
 
-            pub way-done : {s : Scratch} → s ≡ wiped (n + 1) (scratch (placed 0 n w1a ys) w2a w3a (placed 0 n xa zs)) → Told s1 lx1 s
+            pub way-done : {s : Scratch} → s ≡ wiped (n + 1) (scratch (placed 0 n w1a ys) w2b w3a (placed 0 n xa zs)) → Told s1 lx1 s
             unfolding number left
             way-done c =
                 at-end a given lx old rest t (left a) (e .0) h ends (r1 .1 ∙ ap (λ (k : ℕ). written k (left (matrix n n p i v)) lx) count-is ∙ ap (λ (o : Outcome). written t o lx) left-is) (wiped-again c)

@@ -1,9 +1,10 @@
 -- What the steps of the left factoring ask and leave, on plain lists. Assumes nothing.
 use mathlib.Core.Path.{_≡_}
 use mathlib.Core.Bool.{Bool, true, false, not, cond, _&&_}
-use mathlib.Core.List.{List, flatten}
+use mathlib.Core.List.{List, flatten, List·Memᴰ}
+use mathlib.Core.Logic.{_⊎_}
 use Prim.Native.Nat.{ℕ, _+_, _-_, _≤_, _<_}
-use lib.Dec.{ltb}
+use lib.Dec.{ltb, eqb}
 use lib.Ieee.{Float, nan, binary64, add, mul}
 use lib.ListN.{length, getD, set, take, drop, replicate}
 use Rattle.lists.specs.Calls.{none}
@@ -107,6 +108,46 @@ pub record Rises (n : ℕ) (p i : List ℕ) : Type 0 where
   pub few : n ≤ 65535
   pub each : (k : ℕ) → k < n → Within k p i
   pub rise : (k : ℕ) → k < n → rises (column p k i) ≡ true
+
+-- row z of column r is at or above the diagonal, or its mirror is stored: row r of column z
+abbrev pub Met : List ℕ → List ℕ → ℕ → ℕ → Type 0
+Met p i r z = (z ≤ r) ⊎ List·Memᴰ r (column p z i)
+
+-- so are all rows of the first c columns, before the places that `next` has
+pub record Mirrors (c : ℕ) (p i next : List ℕ) : Type 0 where
+  pub met : (r y : ℕ) → r < c → getD p r 0 ≤ y → y < getD next r 0 → Met p i r (getD i y 0)
+
+-- column c stores row r: the next row of column r is met if it is c
+unfoldable pub meetAt : ℕ → List ℕ → List ℕ → ℕ → List ℕ → List ℕ
+meetAt c p i r next = let s = getD next r 0 in cond (ltb s (getD p (r + 1) 0) && eqb (getD i s 0) c) (set next r (s + 1)) next
+
+-- what column c is walked with
+pub record Meets (c : ℕ) (p i next : List ℕ) : Type 0 where
+  pub n : ℕ
+  pub rises : Rises n p i
+  pub here : c < n
+  pub room : length next ≡ n
+  pub mirrors : Mirrors c p i next
+
+-- and what it leaves: its rows before place q are at or above the diagonal
+pub record Walked (c : ℕ) (p i next : List ℕ) (q : ℕ) : Type 0 where
+  pub mirrors : Mirrors c p i next
+  pub above : (y : ℕ) → getD p c 0 ≤ y → y < q → getD i y 0 ≤ c
+
+-- strays are sought in n columns, with m places for `next`: L has a place for the mirror of each stored row above the diagonal
+pub record Sought (n : ℕ) (p i lp li : List ℕ) (m : ℕ) : Type 0 where
+  pub stored : Rises n p i
+  pub held : Rises n lp li
+  pub mirrored : (r z : ℕ) → z < n → r < z → List·Memᴰ r (column p z i) → List·Memᴰ z (column lp r li)
+  pub below : (q : ℕ) → q < length i → getD i q 0 < n
+  pub room : m ≡ n
+
+-- and in column k, once all rows are met that can be
+pub record Seeks (k : ℕ) (p i lp li next : List ℕ) : Type 0 where
+  pub n : ℕ
+  pub here : k < n
+  pub sought : Sought n p i lp li (length next)
+  pub mirrors : Mirrors n p i next
 
 -- what a factoring of n columns starts from: all that is stored below the diagonal has its place in L, and x is zeros
 pub record Asked (n : ℕ) (p i : List ℕ) (v : List Float) (up ui lp li : List ℕ) (room : ℕ) (next : List ℕ) (x : List Float) : Type 0 where

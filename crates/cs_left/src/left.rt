@@ -174,7 +174,7 @@ pub fn decompose_left_looking(
     if number != 0 {
         return refused(number);
     }
-    if strays(ncols, p, i, lp, li) {
+    if strays(ncols, p, i, lp, li, w2) {
         return refused(9);
     }
     let answer = work(
