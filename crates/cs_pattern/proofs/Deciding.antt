@@ -75,12 +75,19 @@ module _ {n t : ℕ} {up ui : List ℕ} (room : ℕ) (lp li : List ℕ) where
   pub lower-tight : (w1 w3 : List ℕ) → room < t → (w : Whole n t up ui) → (7 ≡ JL w) × Kept 0 (n + 1) w1 w1 × Kept 0 (n + 1) w3 w3
   lower-tight w1 w3 h w = (rw (lt-ltb room t h), kept-all (n + 1) w1, kept-all (n + 1) w3)
 
-  module _ {w1 w1a w3 w3a : List ℕ} {s : Bool} (l : t ≤ room) (d : (w : Whole n t up ui) → (s ≡ L w) × Kept 0 (n + 1) w1 w1a × Kept 0 (n + 1) w3 w3a) where
-    pub lower-differs : s ≡ false → (w : Whole n t up ui) → (8 ≡ JL w) × Kept 0 (n + 1) w1 w1a × Kept 0 (n + 1) w3 w3a
-    lower-differs z w = (rw (le-ltb room t l, ← d w .0, z), d w .1, d w .2)
+  module _ (l : t ≤ room) {w3 w3a : List ℕ} {q : Bool} (e : (q ≡ true → (w : Whole n t up ui) → L w ≡ true) × Kept 0 n w3 w3a) where
+    looked : Kept 0 (n + 1) w3 w3a
+    looked = kept-wider (n + 1) (omega arith) (e .1)
 
-    pub lower-none : s ≡ true → (w : Whole n t up ui) → (0 ≡ JL w) × Kept 0 (n + 1) w1 w1a × Kept 0 (n + 1) w3 w3a
-    lower-none z w = (rw (le-ltb room t l, ← d w .0, z), d w .1, d w .2)
+    pub lower-found : (w1 : List ℕ) → q ≡ true → (w : Whole n t up ui) → (0 ≡ JL w) × Kept 0 (n + 1) w1 w1 × Kept 0 (n + 1) w3 w3a
+    lower-found w1 h w = (rw (le-ltb room t l, e .0 h w), kept-all (n + 1) w1, looked)
+
+    module _ {w1 w1a w3b : List ℕ} {s : Bool} (d : (w : Whole n t up ui) → (s ≡ L w) × Kept 0 (n + 1) w1 w1a × Kept 0 (n + 1) w3a w3b) where
+      pub lower-differs : s ≡ false → (w : Whole n t up ui) → (8 ≡ JL w) × Kept 0 (n + 1) w1 w1a × Kept 0 (n + 1) w3 w3b
+      lower-differs z w = (rw (le-ltb room t l, ← d w .0, z), d w .1, kept-then looked (d w .2))
+
+      pub lower-none : s ≡ true → (w : Whole n t up ui) → (0 ≡ JL w) × Kept 0 (n + 1) w1 w1a × Kept 0 (n + 1) w3 w3b
+      lower-none z w = (rw (le-ltb room t l, ← d w .0, z), d w .1, kept-then looked (d w .2))
 
 -- ---- `decide`
 pub up-long : {n : ℕ} {p i up ui : List ℕ} → ValidPattern (pattern n n p i) → Holds (columns (pattern n n p i)) up ui → n < length up

@@ -5,5 +5,6 @@ pub mod Squaring
 pub mod Analysing
 pub mod Matching
 pub mod Comparing
+pub mod Finding
 pub mod Deciding
 pub mod Judging

@@ -16,6 +16,7 @@ ghost use Rattle.cs_pattern.specs.Columns.{columns};
 ghost use Rattle.cs_pattern.specs.Compare.{startsWith, same as sameAs, tight, number};
 ghost use Rattle.cs_pattern.specs.Steps.{Counts, Fresh};
 use crate::fill::begin;
+use crate::look::look;
 use crate::quick::read_upper;
 use crate::same::same;
 use crate::same::same_columns;
@@ -153,6 +154,9 @@ fn judge_lower(
 {
     if room < t {
         return 7;
+    }
+    if look(n, t, up, ui, lp, li, w3) {
+        return 0;
     }
     if !same_lower(n, t, up, ui, lp, li, w1, w3) {
         return 8;

@@ -3,6 +3,7 @@
 pub mod analyse;
 pub mod compare;
 mod fill;
+mod look;
 mod lower;
 mod quick;
 mod reach;

@@ -14,8 +14,10 @@ pub mod Climbing
 pub mod Walking
 pub mod Growing
 pub mod Laid
+pub mod Between
 pub mod Filling
 pub mod Spreading
 pub mod Lowering
 pub mod Reread
 pub mod Backward
+pub mod Looking

@@ -102,10 +102,10 @@ module _ {n t : ℕ} {up ui : List ℕ} (w : Whole n t up ui) where
   keys-long : length ks ≡ t
   keys-long = length-laid us ∙ sym (w .size)
 
-  items-long : length xs ≡ length ks
+  pub items-long : length xs ≡ length ks
   items-long = length-numbers 0 us ∙ sym (length-laid us)
 
-  named : (q : ℕ) → q < length ks → getD ks q 0 < n
+  pub named : (q : ℕ) → q < length ks → getD ks q 0 < n
   named = laid-below us n (w .below)
 
   -- the rows lent as a part

@@ -1,8 +1,8 @@
 -- The loops that put U's entries by their rows, which lays out L: one column, and column by column; and the same walk where L is
 -- only looked at. Assumes nothing.
-use mathlib.Core.Path.{_≡_, refl, sym, ap, _∙_}
-use mathlib.Core.List.{List, [], _∷_, _++_, flatten}
-use Prim.Native.Nat.{ℕ, zero, suc, _+_, _-_, _≤_, _<_}
+use mathlib.Core.Path.{_≡_, refl, sym, _∙_}
+use mathlib.Core.List.{List, [], flatten}
+use Prim.Native.Nat.{ℕ, _+_, _-_, _≤_, _<_}
 use native.Mathlib.Omega.{arith}
 use lib.ListN.{length, getD, set, take}
 use lib.Seq.{set-getD, take-all}
@@ -11,12 +11,12 @@ use Rattle.lists.specs.Keys.{byKey}
 use Rattle.lists.specs.Parts.{part}
 use Rattle.lists.specs.Keeping.{Kept}
 use Rattle.lists.proofs.Keys.{keys-whole}
-use Rattle.lists.proofs.Parts.{length-part, getD-part}
 use Rattle.lists.proofs.Placing.{next-holds}
-use Rattle.lists.proofs.Scattering.{Scatter, Scattering, scattering-start, scattering-turn, scattering-done, r-in-w, at-in, at-in-out}
+use Rattle.lists.proofs.Scattering.{Scattering, scattering-start, scattering-turn, scattering-done, r-in-w, at-in, at-in-out}
 use Rattle.cs_tree.specs.Pattern.{entries}
-use Rattle.cs_tree.specs.Steps.{numbers, Pointed, Spread, Put, Spreads}
-use Rattle.cs_tree.proofs.Laid.{length-laid, length-numbers, entries-more, entries-part, numbered-at}
+use Rattle.cs_tree.specs.Steps.{numbers, Spread, Put, Spreads}
+use Rattle.cs_tree.proofs.Between.{between-start, between-end, between-size, between-order, between-last, between-long, between-keyed, between-numbered}
+use Rattle.cs_tree.proofs.Laid.{length-laid}
 
 -- ---- one column: `lower_column`
 -- for whatever the rows stand among
@@ -88,33 +88,25 @@ module _ {n : ℕ} {up ui next₀ li₀ : List ℕ} {k : ℕ} (s : Spreads n up 
 
   module _ {b f : ℕ} (x : b ≡ getD up k 0) (y : f ≡ getD up (k + 1) 0) where
     start-is : b ≡ entries (take k (s .us))
-    start-is = x ∙ s .pointed .at k (omega (arith, k-in))
+    start-is = between-start (s .pointed) k-in x y
 
     end-is : f ≡ entries (take (k + 1) (s .us))
-    end-is = y ∙ s .pointed .at (k + 1) (omega (arith, k-in))
+    end-is = between-end (s .pointed) k-in x y
 
     size : f ≡ b + length (getD (s .us) k [])
-    size = omega (arith, start-is, end-is, entries-more (s .us) k k-in)
+    size = between-size (s .pointed) k-in x y
 
     pub spreads-order : b ≤ f
-    spreads-order = omega (arith, size)
+    spreads-order = between-order (s .pointed) k-in x y
 
     last : f ≤ entries (s .us)
-    last = omega (arith, end-is, entries-part (s .us) (k + 1))
+    last = between-last (s .pointed) k-in x y
 
     pub spreads-inside : f ≤ length ui
     spreads-inside = omega (arith, last, s .room)
 
     rows-long : length (part b f ui) ≡ f - b
-    rows-long = length-part b f ui spreads-inside
-
-    keyed : (q : ℕ) → q < length (part b f ui) → getD (flatten (s .us)) (entries (take k (s .us)) + q) 0 ≡ getD (part b f ui) q 0
-    keyed q l =
-        let m : q < f - b = omega (arith, rows-long) in
-        sym (getD-part b f ui q 0 m ∙ s .laid (b + q) (omega (arith, last)) ∙ ap (λ (z : ℕ). getD (flatten (s .us)) (z + q) 0) start-is)
-
-    numbered : (q : ℕ) → q < length (part b f ui) → getD (numbers 0 (s .us)) (entries (take k (s .us)) + q) 0 ≡ k
-    numbered q l = numbered-at 0 (s .us) k q (omega (arith, rows-long, size)) ∙ (let z : 0 + k ≡ k = omega arith in z)
+    rows-long = between-long (s .pointed) k-in x y ui (s .room) (s .laid)
 
     pub spreads-column : {next li : List ℕ} → Columns n up ui next₀ li₀ next li k → Spread k (part b f ui) next li
     spreads-column {next = next} {li = li} v =
@@ -128,8 +120,8 @@ module _ {n : ℕ} {up ui next₀ li₀ : List ℕ} {k : ℕ} (s : Spreads n up 
           is = v s;
           few = omega (arith, keys-whole n (flatten (s .us)) (numbers 0 (s .us)) (s .ready .alike) (s .ready .named), length-laid (s .us), s .few);
           end = omega (arith, rows-long, size, start-is, last, length-laid (s .us), end-is);
-          keyed = keyed;
-          numbered = numbered;
+          keyed = between-keyed (s .pointed) k-in x y ui (s .room) (s .laid);
+          numbered = between-numbered (s .pointed) k-in x y ui (s .room) (s .laid);
         }
 
 pub columns-turn : {n : ℕ} {up ui next₀ li₀ next li next1 li1 : List ℕ} {k b f : ℕ} → Columns n up ui next₀ li₀ next li k → k < n → b ≡ getD up k 0 → f ≡ getD up (k + 1) 0

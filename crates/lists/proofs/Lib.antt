@@ -30,3 +30,4 @@ pub mod Onces
 pub mod Kept
 pub mod Runs
 pub mod Positions
+pub mod Standing
