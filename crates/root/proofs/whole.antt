@@ -1,3 +1,2 @@
--- The laws of the engine, which only its own proof names.
-mod Turns
+-- The laws of the division.
 mod Division

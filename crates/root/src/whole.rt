@@ -3,30 +3,7 @@
 ghost use mathlib.Core.Path.{_≡_};
 ghost use Prim.Native.Nat.{_+_, _*_, _^_, _≤_};
 ghost use Rattle.root.specs.Root.{Largest, rounded};
-
-// The whole root of a, digit by digit. Two binary digits of a come down in each turn: rem and root stay below 2^30.
-fn whole_root(a: u64) -> u64
-    requires { ⌜ a + 2 ≤ 2 ^ 54 ⌝ }
-    ensures { λ r. ⌜ Largest a r ⌝ }
-{
-    let mut left = a;
-    let mut rem: u64 = 0;
-    let mut root: u64 = 0;
-    let mut i: u32 = 0;
-    while i < 27 {
-        rem = rem * 4 + left / 0x10_0000_0000_0000;
-        left = (left % 0x10_0000_0000_0000) * 4;
-        let trial = root * 4 + 1;
-        if trial <= rem {
-            rem -= trial;
-            root = root * 2 + 1;
-        } else {
-            root = root * 2;
-        }
-        i += 1;
-    }
-    root
-}
+use crate::near::near_root;
 
 // The rounded root of a * 2^52 from the whole root s of a. With q the digits that the division gives and u what it leaves, the
 // square of root = s * 2^26 + q is u - q * q below a * 2^52. Where u is less than q * q root is one too many, and what it rounds
@@ -47,5 +24,5 @@ pub fn rounded_root(a: u64) -> u64
     requires { ⌜ (2 ^ 52 ≤ a) × (a + 2 ≤ 2 ^ 54) ⌝ }
     ensures { λ r. ⌜ r ≡ rounded (a * 2 ^ 52) ⌝ }
 {
-    finish(a, whole_root(a))
+    finish(a, near_root(a))
 }

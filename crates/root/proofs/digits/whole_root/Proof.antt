@@ -1,10 +1,10 @@
--- `root::whole::whole_root` meets its contract: each turn keeps `Turn` of `Turns.antt`. Assumes nothing.
+-- `root::digits::whole_root` meets its contract: each turn keeps `Turn` of `Turns.antt`. Assumes nothing.
 use mathlib.Core.Logic.{⊎-elim}
 use Prim.Native.Nat.{_-_, _<_}
 use native.Mathlib.Omega.{arith}
-use Rattle.root.proofs.whole.Turns.{Turn, start, root-lt, fewer, same, found}
-use Rattle.root.proofs.whole.whole_root.Statement.{statement}
-use Rattle.root.proofs.whole.whole_root.Tie as tie
+use Rattle.root.proofs.digits.Turns.{Turn, start, root-lt, fewer, same, found}
+use Rattle.root.proofs.digits.whole_root.Statement.{statement}
+use Rattle.root.proofs.digits.whole_root.Tie as tie
 
 abbrev Inv-loop : tie.InvT-loop
 Inv-loop a left₀ rem₀ root₀ i₀ left rem root i = Turn a left rem root i

@@ -1,0 +1,2 @@
+-- The laws of the digits, which only their own proof names.
+mod Turns
