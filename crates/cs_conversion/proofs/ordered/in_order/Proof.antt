@@ -45,7 +45,7 @@ mul-if1 : tie.Need-mul-if1 Inv-loop μ-loop
 mul-if1 c = search needs
 
 shared-slice-read-if1 : tie.Need-shared-slice-read-if1 Inv-loop μ-loop
-shared-slice-read-if1 c = in-cols (c .before .before .before .before .loop .inv) (c .before .before .before .loop-test .taken)
+shared-slice-read-if1 c = omega (arith, c .before .before .before .loop-test .taken, in-cols (c .before .before .before .before .loop .inv) (c .before .before .before .loop-test .taken))
 
 mul-if1-2 : tie.Need-mul-if1-2 Inv-loop μ-loop
 mul-if1-2 c = omega (arith, here-small (c .before .before .before .before .loop .inv) (c .before .before .before .loop-test .taken))

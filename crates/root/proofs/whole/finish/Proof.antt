@@ -33,7 +33,7 @@ add-root : tie.Need-add-root
 add-root c = omega (arith, at c .most, at c .digits)
 
 mul-if1 : tie.Need-mul-if1
-mul-if1 c = omega (arith, at c .square)
+mul-if1 c = omega (arith, at c .square, at c .digits)
 
 add-if1 : tie.Need-add-if1
 add-if1 c = omega (arith, at c .most, at c .digits, at c .square)
