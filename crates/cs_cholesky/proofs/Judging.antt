@@ -12,7 +12,7 @@ use Rattle.lists.proofs.Calls.{Early, From, lowest-both, lower-none, first, bel
 use Rattle.cs_matrix.specs.Matrix.{Pattern, Matrix, tooLarge, judgedPattern, judged, needed}
 use Rattle.cs_matrix.proofs.Refusing.{from-judged, from-disagree}
 use Rattle.cs_tree.specs.Pattern.{Analysis, analysed}
-use Rattle.cs_pattern.specs.Analyse.{judgedSquare as judgedPatternSquare}
+use Rattle.cs_matrix.specs.Matrix.{judgedSquare as judgedPatternSquare}
 use Rattle.cs_pattern.specs.Columns.{columns}
 use Rattle.cs_pattern.specs.Compare.{same, tight, number}
 use Rattle.cs_cholesky.specs.Factor.{judgedSquare, judgedFactor}

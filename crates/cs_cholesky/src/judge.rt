@@ -5,8 +5,8 @@ ghost use Rattle.cs_matrix.specs.Matrix.{pattern, matrix, needed};
 ghost use Rattle.cs_tree.specs.Pattern.{analysis};
 ghost use Rattle.cs_cholesky.specs.Factor.{factored, judgedFactor};
 use crate::Factored;
+use cs_matrix::square::check_square;
 use cs_pattern::compare::compare;
-use cs_pattern::square::check_square;
 use lists::numbers::lower;
 
 // The answer with a number that carries no column and no pivot.

@@ -4,3 +4,4 @@ pub mod Validity
 pub mod Falling
 pub mod Rooms
 pub mod Values
+pub mod Squaring

@@ -80,6 +80,10 @@ judgedPattern a =
 unfoldable pub judged : Matrix → List (ℕ × Bool)
 judged a = both (judgedPattern (a .pattern)) (disagree (not (eqb (length (a .pattern .i)) (length (a .v)))))
 
+-- numbers 1 to 5, of a pattern that has to be square: 2 also where it is not
+unfoldable pub judgedSquare : Pattern → List (ℕ × Bool)
+judgedSquare a = both (judgedPattern a) (disagree (not (eqb (a .nrows) (a .ncols))))
+
 -- a vector is a list of strictly rising rows with as many values
 unfoldable pub judgedVector : Vector → List (ℕ × Bool)
 judgedVector b =

@@ -17,7 +17,7 @@ use Rattle.lists.proofs.Calls.{first, then, early, late, done, wiped-each}
 use Rattle.lists.proofs.Clearing.{length-cleared, cleared-front, cleared-again}
 use Rattle.lists.proofs.Laying.{part-onto, part-long}
 use Rattle.lists.proofs.Parts.{length-onto, getD-onto-front}
-use Rattle.cs_matrix.specs.Matrix.{Pattern, pattern, needed, ValidPattern}
+use Rattle.cs_matrix.specs.Matrix.{Pattern, pattern, needed, ValidPattern, judgedSquare}
 use Rattle.cs_tree.specs.Pattern.{Analysis, analysis, analysed, upper, lower, transposed, starts, entries}
 use Rattle.cs_tree.specs.Steps.{Given, Zeros, lengths, Whole}
 use Rattle.cs_tree.specs.Tree.{tree}
@@ -27,14 +27,14 @@ use Rattle.cs_tree.proofs.Laid.{length-laid}
 use Rattle.cs_tree.proofs.Laws.{fill-upper}
 use Rattle.cs_tree.proofs.Lowering.{pointed-onto}
 use Rattle.cs_tree.proofs.Promises.{promised, filled, length-lower}
-use Rattle.cs_pattern.specs.Analyse.{judgedSquare, short, written, number}
+use Rattle.cs_pattern.specs.Analyse.{short, written, number}
 use Rattle.cs_pattern.specs.Columns.{columns}
 use Rattle.cs_pattern.specs.Promise.{Analysed}
 use Rattle.cs_pattern.specs.Steps.{Begun, Ready}
 use Rattle.cs_pattern.proofs.Columns.{columns-fit, columns-long, given}
 use Rattle.cs_pattern.proofs.Filled.{tree-size, upper-size, zeros-front, lengths-there}
 use Rattle.cs_pattern.proofs.Promising.{analysed-holds}
-use Rattle.cs_pattern.proofs.Squaring.{judged6, early-6, Prepared, unprepared}
+use Rattle.cs_matrix.proofs.Squaring.{judged6, early-6, Prepared, unprepared}
 
 -- ---- `too_short`, test by test
 module _ (n t a b c d e : ℕ) where

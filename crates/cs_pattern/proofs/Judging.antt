@@ -19,7 +19,7 @@ use Rattle.lists.proofs.Calls.{first, then, early}
 use Rattle.lists.proofs.Clearing.{length-cleared}
 use Rattle.lists.proofs.Laying.{part-onto, part-front, part-long}
 use Rattle.lists.proofs.Parts.{length-onto, getD-onto-front}
-use Rattle.cs_matrix.specs.Matrix.{Pattern, pattern, needed, ValidPattern}
+use Rattle.cs_matrix.specs.Matrix.{Pattern, pattern, needed, ValidPattern, judgedSquare}
 use Rattle.cs_tree.specs.Pattern.{Analysis, analysis, analysed, upper, lower, transposed, starts, entries}
 use Rattle.cs_tree.specs.Steps.{Given, Zeros, Pointed, lengths, numbers, Spreads, Whole}
 use Rattle.cs_tree.specs.Tree.{tree}
@@ -29,7 +29,6 @@ use Rattle.cs_tree.proofs.Laid.{length-laid, start-at}
 use Rattle.cs_tree.proofs.Laws.{fill-upper}
 use Rattle.cs_tree.proofs.Lowering.{fronts, sums-a, sums-b, counted-are, next1-long, spreads, put-is, next-kept, entries-lower, lower-long}
 use Rattle.cs_tree.proofs.Promises.{promised, filled}
-use Rattle.cs_pattern.specs.Analyse.{judgedSquare}
 use Rattle.cs_pattern.specs.Columns.{columns}
 use Rattle.cs_pattern.specs.Compare.{startsWith, same, tight, number}
 use Rattle.cs_pattern.specs.Steps.{Counts, Fresh}
@@ -37,7 +36,7 @@ use Rattle.cs_pattern.proofs.Analysing.{square-valid, cleared-up, long1
 use Rattle.cs_pattern.proofs.Columns.{columns-fit, columns-long, given}
 use Rattle.cs_pattern.proofs.Filled.{tree-size, upper-size, zeros-front}
 use Rattle.cs_pattern.proofs.Matching.{begins, starts-at, starts-long, starts-short}
-use Rattle.cs_pattern.proofs.Squaring.{judged6, early-6, Prepared, unprepared}
+use Rattle.cs_matrix.proofs.Squaring.{judged6, early-6, Prepared, unprepared}
 
 -- ---- `same_pointers`
 module _ (n : ℕ) (counts held : List ℕ) (sum : List ℕ) (l : n + 1 ≤ length sum) {a b : List ℕ} {r : Bool}

@@ -1,7 +1,6 @@
 pub mod Columns
 pub mod Filled
 pub mod Promising
-pub mod Squaring
 pub mod Analysing
 pub mod Matching
 pub mod Comparing

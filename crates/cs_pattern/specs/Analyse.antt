@@ -1,17 +1,13 @@
 -- The analysis as a call: what it answers and writes. Assumes nothing.
-use mathlib.Core.Bool.{Bool, not, _||_}
+use mathlib.Core.Bool.{Bool, _||_}
 use mathlib.Core.List.{List, [], _∷_, _++_}
 use Prim.Native.Nat.{ℕ}
-use lib.Dec.{ltb, eqb}
+use lib.Dec.{ltb}
 use lib.ListN.{length}
-use Rattle.lists.specs.Calls.{lowest, both, disagree, onto, narrow, Lent}
-use Rattle.cs_matrix.specs.Matrix.{Pattern, judgedPattern, needed}
+use Rattle.lists.specs.Calls.{lowest, onto, narrow, Lent}
+use Rattle.cs_matrix.specs.Matrix.{Pattern, judgedSquare, needed}
 use Rattle.cs_tree.specs.Pattern.{Analysis, analysis, analysed}
 use Rattle.cs_pattern.specs.Columns.{columns}
-
--- numbers 1 to 5, of a pattern that has to be square: 2 also where it is not
-unfoldable pub judgedSquare : Pattern → List (ℕ × Bool)
-judgedSquare a = both (judgedPattern a) (disagree (not (eqb (a .nrows) (a .ncols))))
 
 -- 7, where the analysis f is to be written: an output is shorter than needed, or the needed count is over 4,194,304
 unfoldable pub short : Analysis → Analysis → Bool

@@ -5,9 +5,8 @@ use Prim.Native.Nat.{ℕ}
 use lib.Dec.{ltb, eqb}
 use lib.ListN.{length}
 use Rattle.lists.specs.Calls.{lowest, Scratch, narrow}
-use Rattle.cs_matrix.specs.Matrix.{Pattern, needed}
+use Rattle.cs_matrix.specs.Matrix.{Pattern, judgedSquare, needed}
 use Rattle.cs_tree.specs.Pattern.{Analysis, analysed}
-use Rattle.cs_pattern.specs.Analyse.{judgedSquare}
 use Rattle.cs_pattern.specs.Columns.{columns}
 
 -- the slice l holds xs in its front: a short slice does not, and what stands behind does not matter

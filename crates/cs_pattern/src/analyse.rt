@@ -15,7 +15,7 @@ use crate::fill::begin;
 use crate::fill::copy;
 use crate::fill::fill_lower;
 use crate::fill::fill_upper;
-use crate::square::prepare;
+use cs_matrix::square::prepare;
 use lists::clear::clear;
 use lists::clear::clear_scratch;
 

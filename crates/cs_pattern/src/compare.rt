@@ -21,7 +21,7 @@ use crate::quick::read_upper;
 use crate::same::same;
 use crate::same::same_columns;
 use crate::same::same_lower_columns;
-use crate::square::prepare;
+use cs_matrix::square::prepare;
 use lists::clear::clear;
 use lists::clear::clear_scratch;
 use lists::numbers::wide;

@@ -8,6 +8,5 @@ mod lower;
 mod quick;
 mod reach;
 mod same;
-pub mod square;
 mod tree;
 mod upper;

@@ -7,10 +7,10 @@ use Rattle.lists.specs.Choices.{chosen, someOf, keep}
 use Rattle.lists.specs.Folds.{every, tally, turns, falls, along, over}
 use Rattle.lists.specs.Order.{rises, allBelow, lists}
 use Rattle.lists.specs.Tables.{from}
-use Rattle.cs_matrix.specs.Matrix.{tooLarge, pointers, column, valueAt, columnsRise, judgedPattern, judged, judgedVector, needed, short, shortBy, written}
+use Rattle.cs_matrix.specs.Matrix.{tooLarge, pointers, column, valueAt, columnsRise, judgedPattern, judged, judgedVector, needed, short, shortBy, written, judgedSquare}
 use Rattle.cs_tree.specs.Pattern.{path, paths, upperColumn, upper, across, transposed, lower as cs-tree-Pattern-lower, starts, entries, analysed}
 use Rattle.cs_tree.specs.Tree.{root, climb, climbs, treeTo, tree}
-use Rattle.cs_pattern.specs.Analyse.{judgedSquare, short as cs-pattern-Analyse-short, written as cs-pattern-Analyse-written, number}
+use Rattle.cs_pattern.specs.Analyse.{short as cs-pattern-Analyse-short, written as cs-pattern-Analyse-written, number}
 use Rattle.cs_pattern.specs.Columns.{columns}
 use Rattle.cs_pattern.specs.Compare.{startsWith, same, tight, number as cs-pattern-Compare-number}
 use Rattle.cs_cholesky.specs.Factor.{factor, judgedSquare as cs-cholesky-Factor-judgedSquare, judgedFactor, answer, written as cs-cholesky-Factor-written}

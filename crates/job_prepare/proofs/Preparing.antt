@@ -13,10 +13,10 @@ use Rattle.lists.specs.Calls.{lowest, none, onto, narrow, Scratch, scratch, Len
 use Rattle.lists.proofs.Bools.{eq-or-ne}
 use Rattle.lists.proofs.Parts.{getD-onto-front}
 use Rattle.lists.proofs.Places.{take-onto}
-use Rattle.cs_matrix.specs.Matrix.{Pattern, pattern, Matrix, matrix, Stored, stored, written, short, needed, Valid}
+use Rattle.cs_matrix.specs.Matrix.{Pattern, pattern, Matrix, matrix, Stored, stored, written, short, needed, Valid, judgedSquare}
 use Rattle.cs_tree.specs.Pattern.{Analysis, analysis, analysed}
 use Rattle.cs_conversion.specs.Assembly.{Triplets, triplets, judgedTriplets, neededTriplets, twice, assembled, Assembled, number as assemblyNumber}
-use Rattle.cs_pattern.specs.Analyse.{judgedSquare, number as analysisNumber, written as writtenAnalysis, short as shortAnalysis}
+use Rattle.cs_pattern.specs.Analyse.{number as analysisNumber, written as writtenAnalysis, short as shortAnalysis}
 use Rattle.cs_pattern.specs.Columns.{columns}
 use Rattle.job_prepare.specs.Prepare.{scratchRoom, matrixRoom, analysisRoom, assembly, analysisOf, patternOf, number, Outputs, leaves, heldPattern}
 

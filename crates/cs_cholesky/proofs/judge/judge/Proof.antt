@@ -5,7 +5,7 @@ use Rattle.cs_cholesky.proofs.judge.judge.Tie as tie
 use Rattle.cs_cholesky.proofs.judge.judge.Reads as reads
 use Rattle.cs_cholesky.proofs.judge.judge.Lts as lts
 use Rattle.cs_pattern.proofs.compare.compare.Reads as compare-reads
-use Rattle.cs_pattern.proofs.square.check_square.Reads as check-square-reads
+use Rattle.cs_matrix.proofs.square.check_square.Reads as check-square-reads
 use Rattle.lists.proofs.numbers.lower.Reads as lower-reads
 
 -- src/judge.rt:49:22

@@ -1,5 +1,5 @@
 use mathlib.Core.Path.{_∙_}
-use Rattle.cs_pattern.proofs.Squaring.{prepared}
+use Rattle.cs_matrix.proofs.Squaring.{prepared}
 use Rattle.cs_pattern.proofs.Analysing.{at-refused, begin-asked, square-valid, at-7, ready, at-end}
 use native.Mathlib.Omega.{arith}
 use borrow.Author.Needs.{needs}
@@ -10,7 +10,7 @@ use Rattle.cs_pattern.proofs.analyse.analyse.Lts as lts
 use Rattle.cs_pattern.proofs.analyse.fill.Reads as fill-reads
 use Rattle.cs_pattern.proofs.analyse.too_short.Reads as too-short-reads
 use Rattle.cs_pattern.proofs.fill.begin.Reads as begin-reads
-use Rattle.cs_pattern.proofs.square.prepare.Reads as prepare-reads
+use Rattle.cs_matrix.proofs.square.prepare.Reads as prepare-reads
 use Rattle.lists.proofs.clear.clear_scratch.Reads as clear-scratch-reads
 
 -- src/analyse.rt:96:9

@@ -2,14 +2,14 @@ use Rattle.cs_pattern.proofs.Judging.{at-refused, decide-asked, at-end}
 use mathlib.Core.Path.{_∙_}
 use native.Mathlib.Omega.{arith}
 use Rattle.cs_pattern.proofs.Analysing.{square-valid}
-use Rattle.cs_pattern.proofs.Squaring.{prepared}
+use Rattle.cs_matrix.proofs.Squaring.{prepared}
 use borrow.Author.Needs.{needs}
 use Rattle.cs_pattern.proofs.compare.compare.Statement.{statement}
 use Rattle.cs_pattern.proofs.compare.compare.Tie as tie
 use Rattle.cs_pattern.proofs.compare.compare.Reads as reads
 use Rattle.cs_pattern.proofs.compare.compare.Lts as lts
 use Rattle.cs_pattern.proofs.compare.decide.Reads as decide-reads
-use Rattle.cs_pattern.proofs.square.prepare.Reads as prepare-reads
+use Rattle.cs_matrix.proofs.square.prepare.Reads as prepare-reads
 use Rattle.lists.proofs.clear.clear_scratch.Reads as clear-scratch-reads
 
 -- src/compare.rt:215:9

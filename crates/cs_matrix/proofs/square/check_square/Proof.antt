@@ -1,10 +1,10 @@
-use Rattle.cs_pattern.proofs.Squaring.{square-2, square-rest}
+use Rattle.cs_matrix.proofs.Squaring.{square-2, square-rest}
 use borrow.Author.Needs.{needs}
-use Rattle.cs_pattern.proofs.square.check_square.Statement.{statement}
-use Rattle.cs_pattern.proofs.square.check_square.Tie as tie
-use Rattle.cs_pattern.proofs.square.check_square.Reads as reads
-use Rattle.cs_pattern.proofs.square.check_square.Lts as lts
+use Rattle.cs_matrix.proofs.square.check_square.Statement.{statement}
+use Rattle.cs_matrix.proofs.square.check_square.Tie as tie
+use Rattle.cs_matrix.proofs.square.check_square.Reads as reads
+use Rattle.cs_matrix.proofs.square.check_square.Lts as lts
 use Rattle.cs_matrix.proofs.check.check_pattern.Reads as check-pattern-reads
 use Rattle.lists.proofs.numbers.lower.Reads as lower-reads
 
 -- src/square.rt:19:9

@@ -1,4 +1,4 @@
--- Numbers 1 to 6 of both calls: each way out of src/square.rt, and what is known where none applies. Assumes nothing.
+-- Numbers 1 to 6 of a pattern that has to be square: each way out of src/square.rt, and what is known where none applies. Assumes nothing.
 use mathlib.Core.Path.{_≡_, refl, sym, ap, _∙_}
 use mathlib.Core.Bool.{Bool, true, false, not, cond}
 use mathlib.Core.List.{List, [], _∷_, _++_}
@@ -11,10 +11,9 @@ use Rattle.lists.specs.Calls.{lowest, both, disagree, lower, Scratch, narrow, w
 use Rattle.lists.proofs.Bools.{not-holds, passed-over}
 use Rattle.lists.proofs.Calls.{Early, From, lowest-both, lower-none, first, then, Wide, not-narrow}
 use Rattle.lists.proofs.Passing.{lowest-none, early-append}
-use Rattle.cs_matrix.specs.Matrix.{Pattern, pattern, judgedPattern, needed, ValidPattern}
+use Rattle.cs_matrix.specs.Matrix.{Pattern, judgedPattern, judgedSquare, needed, ValidPattern}
 use Rattle.cs_matrix.proofs.Refusing.{with-2, without-2, from-pattern, from-disagree}
 use Rattle.cs_matrix.proofs.Validity.{valid-pattern}
-use Rattle.cs_pattern.specs.Analyse.{judgedSquare}
 
 -- ---- `check_square`
 module _ (a : Pattern) {r : ℕ} (e : r ≡ lowest (judgedPattern a)) where

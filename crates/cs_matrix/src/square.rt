@@ -1,12 +1,11 @@
-// What both calls begin with: numbers 1 to 6, and the scratch cleared.
+// What the calls on a pattern that has to be square begin with: numbers 1 to 6, and the scratch cleared.
 ghost use mathlib.Core.Bool.{cond};
 ghost use mathlib.Core.List.{[], _∷_, _++_};
 ghost use mathlib.Core.Path.{_≡_};
 ghost use lib.Dec.{eqb};
 ghost use Rattle.lists.specs.Calls.{lowest, narrow, scratch, wiped};
-ghost use Rattle.cs_matrix.specs.Matrix.{pattern, needed};
-ghost use Rattle.cs_pattern.specs.Analyse.{judgedSquare};
-use cs_matrix::check::check_pattern;
+ghost use Rattle.cs_matrix.specs.Matrix.{pattern, needed, judgedSquare};
+use crate::check::check_pattern;
 use lists::clear::clear_scratch;
 use lists::clear::too_narrow;
 use lists::numbers::larger;

@@ -1,14 +1,14 @@
 use mathlib.Core.Path.{refl}
-use Rattle.cs_pattern.proofs.Squaring.{prepare-refused, larger-small, prepare-6, prepare-0}
+use Rattle.cs_matrix.proofs.Squaring.{prepare-refused, larger-small, prepare-6, prepare-0}
 use Rattle.lists.specs.Calls.{scratch}
 use native.Mathlib.Omega.{arith}
 use mathlib.Core.List.{[]}
 use borrow.Author.Needs.{needs}
-use Rattle.cs_pattern.proofs.square.prepare.Statement.{statement}
-use Rattle.cs_pattern.proofs.square.prepare.Tie as tie
-use Rattle.cs_pattern.proofs.square.prepare.Reads as reads
-use Rattle.cs_pattern.proofs.square.prepare.Lts as lts
-use Rattle.cs_pattern.proofs.square.check_square.Reads as check-square-reads
+use Rattle.cs_matrix.proofs.square.prepare.Statement.{statement}
+use Rattle.cs_matrix.proofs.square.prepare.Tie as tie
+use Rattle.cs_matrix.proofs.square.prepare.Reads as reads
+use Rattle.cs_matrix.proofs.square.prepare.Lts as lts
+use Rattle.cs_matrix.proofs.square.check_square.Reads as check-square-reads
 use Rattle.lists.proofs.clear.clear_scratch.Reads as clear-scratch-reads
 use Rattle.lists.proofs.clear.too_narrow.Reads as too-narrow-reads
 use Rattle.lists.proofs.numbers.larger.Reads as larger-reads
