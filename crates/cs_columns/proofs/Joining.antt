@@ -1,7 +1,7 @@
 -- Columns one behind another: how long they are, where each lies, and that they make a valid matrix. Assumes nothing.
 use mathlib.Core.Path.{_≡_, refl, sym, ap, _∙_}
 use mathlib.Core.Bool.{Bool, true}
-use mathlib.Core.List.{List, [], _∷_, _++_, map, append-assoc, append-nil}
+use mathlib.Core.List.{List, [], _++_, map, append-assoc, append-nil}
 use mathlib.Core.Logic.{⊎-elim}
 use Prim.Native.Nat.{ℕ, zero, suc, _+_, _-_, _*_, _≤_, _<_}
 use native.Mathlib.Nat.{eq-or-lt-of-le}
@@ -20,7 +20,7 @@ use Rattle.lists.proofs.Laying.{part-at}
 use Rattle.lists.proofs.Ordering.{rising-rises}
 use Rattle.lists.proofs.Skipping.{getD-member}
 use Rattle.lists.proofs.Tables.{length-table, getD-table}
-use Rattle.cs_matrix.specs.Matrix.{column, Valid, ValidPattern}
+use Rattle.cs_matrix.specs.Matrix.{column, Valid}
 use Rattle.cs_columns.specs.Columns.{joined, withColumns, withEntries}
 
 module _ {A : Type 0} (f : ℕ → List A) where

@@ -199,3 +199,23 @@ module _ (n start : ℕ) (ai : List ℕ) (av : List Float) (bi : List ℕ) (bv :
             writing-more r both-found
             (rw (a-given (both-first (v .merging) er es same o), b-given (both-second (v .merging) er es same o) same)
             (of-both ai av bi bv r (both-list (v .merging) er es same o) (both-list-too (v .merging) er es same o)))
+
+  -- ---- with the next rows of both at hand
+  pub record Walking (oi₀ : List ℕ) (ov₀ : List Float) (oi : List ℕ) (ov : List Float) (at ka kb r s : ℕ) : Type 0 where
+    pub writing : Writing oi₀ ov₀ oi ov at ka kb
+    pub r-is : r ≡ getD ai ka end
+    pub s-is : s ≡ getD bi kb end
+
+  pub walking-start : {oi : List ℕ} {ov : List Float} {r s : ℕ} → Column n start ai av bi bv oi ov → r ≡ getD ai 0 end → s ≡ getD bi 0 end → Walking oi ov oi ov start 0 0 r s
+  walking-start a er es = record { writing = writing-start a; r-is = er; s-is = es }
+
+  module _ {oi₀ : List ℕ} {ov₀ : List Float} {oi : List ℕ} {ov : List Float} {at ka kb r s : ℕ} (w : Walking oi₀ ov₀ oi ov at ka kb r s) where
+    pub walking-first : r < s → {r′ : ℕ} → r′ ≡ getD ai (ka + 1) end → Walking oi₀ ov₀ (set oi at r) (set ov at (mul binary64 (getD av ka nan) one)) (at + 1) (ka + 1) kb r′ s
+    walking-first h e = record { writing = writing-first (w .writing) (w .r-is) (w .s-is) h; r-is = e; s-is = w .s-is }
+
+    pub walking-second : s < r → {s′ : ℕ} → s′ ≡ getD bi (kb + 1) end → Walking oi₀ ov₀ (set oi at s) (set ov at (mul binary64 (getD bv kb nan) one)) (at + 1) ka (kb + 1) r s′
+    walking-second h e = record { writing = writing-second (w .writing) (w .r-is) (w .s-is) h; r-is = w .r-is; s-is = e }
+
+    pub walking-both : r ≤ s → s ≤ r → (ka < length ai) ⊎ (kb < length bi) → {r′ s′ : ℕ} → r′ ≡ getD ai (ka + 1) end → s′ ≡ getD bi (kb + 1) end
+        → Walking oi₀ ov₀ (set oi at r) (set ov at (add binary64 (mul binary64 (getD av ka nan) one) (mul binary64 (getD bv kb nan) one))) (at + 1) (ka + 1) (kb + 1) r′ s′
+    walking-both g h o e f = record { writing = writing-both (w .writing) (w .r-is) (w .s-is) g h o; r-is = e; s-is = f }

@@ -1,8 +1,8 @@
 -- The loops of `count` and `fill`, and the ways out of `sum`. Assumes nothing.
 use mathlib.Core.Path.{_≡_, refl, sym, ap as cong, _∙_}
-use mathlib.Core.Bool.{Bool, true, false, not, _||_}
+use mathlib.Core.Bool.{Bool, true, false, not}
 use mathlib.Core.List.{List, [], _∷_, map}
-use Prim.Native.Nat.{ℕ, zero, suc, _+_, _-_, _*_, _≤_, _<_}
+use Prim.Native.Nat.{ℕ, _+_, _≤_, _<_}
 use native.Mathlib.Omega.{arith}
 use lib.Dec.{eqb}
 use lib.Ieee.{Float}
@@ -11,16 +11,14 @@ use borrow.Author.Tests.{eq-eqb, ne-eqb, eqb-true}
 use Rattle.lists.specs.Calls.{lowest, outputs}
 use Rattle.lists.specs.Choices.{chosen}
 use Rattle.lists.specs.Parts.{part}
-use Rattle.lists.specs.Order.{rises}
-use Rattle.lists.specs.Tables.{table}
 use Rattle.lists.proofs.Bools.{or-false, not-holds, failed}
 use Rattle.lists.proofs.Calls.{first, then, below-7, left-alone, left-written}
 use Rattle.lists.proofs.Parts.{length-part}
 use Rattle.lists.proofs.Tables.{length-table}
-use Rattle.cs_matrix.specs.Matrix.{Matrix, matrix, Stored, stored, column, short, written, Valid, ValidPattern}
+use Rattle.cs_matrix.specs.Matrix.{Matrix, matrix, Stored, stored, column, short, written, Valid}
 use Rattle.cs_matrix.proofs.Pointers.{Between, between, column-is, length-column, getD-column, last-at}
 use Rattle.cs_columns.specs.Columns.{joined, withColumns, withEntries, either, laid, judgedTwo, shortFor}
-use Rattle.cs_columns.proofs.Filling.{Ask, Filling, filling-start, filling-turn, filling-end, filling-at, filling-i, filling-v, room-i, room-v, room-p, room-all}
+use Rattle.cs_columns.proofs.Filling.{Filling, filling-start, filling-turn, filling-end, filling-at, filling-i, filling-v, room-i, room-v, room-p, room-all}
 use Rattle.cs_columns.proofs.Joining.{joined-none, length-more, joined-steps, joined-alike, entries-within, entries-valid}
 use Rattle.cs_columns.proofs.Judging.{early-two, Passed, passed, Roomy, roomy, short-fewer, short-for}
 use Rattle.cs_columns.proofs.Merging.{either-most}

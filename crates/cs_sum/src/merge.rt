@@ -52,22 +52,26 @@ pub fn merge(
     let mut at = start;
     let mut ka = 0;
     let mut kb = 0;
+    let mut r = row_at(ai, 0);
+    let mut s = row_at(bi, 0);
     while ka < ai.len() || kb < bi.len() {
-        let r = row_at(ai, ka);
-        let s = row_at(bi, kb);
         if r < s {
             oi[at] = r;
             ov[at] = av[ka] * 1.0;
             ka += 1;
+            r = row_at(ai, ka);
         } else if s < r {
             oi[at] = s;
             ov[at] = bv[kb] * 1.0;
             kb += 1;
+            s = row_at(bi, kb);
         } else {
             oi[at] = r;
             ov[at] = av[ka] * 1.0 + bv[kb] * 1.0;
             ka += 1;
             kb += 1;
+            r = row_at(ai, ka);
+            s = row_at(bi, kb);
         }
         at += 1;
     }

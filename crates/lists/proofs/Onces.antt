@@ -1,21 +1,19 @@
 -- Lists that hold each number once: their parts, and how many numbers they are. Assumes nothing.
 use mathlib.Core.Path.{_≡_, refl, sym, ap, _∙_}
 use mathlib.Core.Bool.{Bool, true, false, cond, _&&_, _||_}
-use mathlib.Core.List.{List, [], _∷_, _++_, List·Memᴰ, List·Memᴰ·head, List·Memᴰ·tail, List·Memᴰ·not-nil, List·Memᴰ·cases-cons, List·Memᴰ·append-cases, List·Memᴰ·eq-of-singleton, Memᴰ·append-left, Memᴰ·append-right}
+use mathlib.Core.List.{List, [], _∷_, _++_, List·Memᴰ, List·Memᴰ·not-nil, List·Memᴰ·append-cases, List·Memᴰ·eq-of-singleton, Memᴰ·append-left}
 use mathlib.Core.Logic.{_⊎_, ⊎-elim}
-use Prim.Native.Nat.{ℕ, zero, suc, _+_, _-_, _≤_, _<_}
+use Prim.Native.Nat.{ℕ, zero, suc, _+_, _<_}
 use native.Mathlib.Nat.{eq-or-lt-of-le}
 use native.Mathlib.Omega.{arith}
 use lib.Dec.{eqb}
 use lib.ListN.{length, getD, take, drop, length-append, take-append-drop, List·getD-append}
 use lib.Seq.{getD-at, getD-take, length-take-le}
-use borrow.Author.Tests.{eq-eqb, ne-eqb}
 use Rattle.lists.specs.Choices.{chosen, keep}
 use Rattle.lists.specs.Order.{lists, Once, no-more, one-more}
 use Rattle.lists.proofs.Bools.{eq-or-ne, not-both, or-none, and-none, and-false}
 use Rattle.lists.proofs.Chosen.{chosen-alike}
 use Rattle.lists.proofs.Members.{lists-same, lists-other, lists-append, listed-or-not}
-use Rattle.lists.proofs.Ordering.{lists-mean, member-lists}
 use Rattle.lists.proofs.Skipping.{lists-nowhere, getD-member}
 
 -- ---- one more behind
