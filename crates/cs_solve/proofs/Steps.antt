@@ -14,6 +14,7 @@ use Rattle.lists.specs.Folds.{over}
 use Rattle.lists.proofs.Bools.{le-or-lt}
 use Rattle.lists.proofs.Folds.{Over, over-start, over-turn, over-end}
 use Rattle.lists.proofs.Pairs.{Paired, paired-start, paired-turn}
+use Rattle.lists.proofs.Positions.{over-keeps}
 use Rattle.cs_matrix.specs.Matrix.{Matrix}
 use Rattle.cs_solve.specs.Solve.{lowerAt, forwardAt, forwardColumn}
 use Rattle.cs_solve.specs.TrSolve.{raiseAt, transposedAt, Column}
@@ -43,14 +44,6 @@ module _ (j : ℕ) (x : Float) (i : ℕ) (v : Float) (b : List Float) where
       go : (t : Bool) → length (cond t (set b i (sub binary64 (getD b i nan) (mul binary64 x v))) b) ≡ length b
       go true = length-set b i _
       go false = refl
-
--- steps that keep the length keep it over a column
-length-over : (f : ℕ → Float → List Float → List Float) → ((i : ℕ) (v : Float) (b : List Float) → length (f i v b) ≡ length b)
-    → (rows : List ℕ) (vals b : List Float) → length (over f rows vals b) ≡ length b
-unfolding over
-length-over f h [] vals b = refl
-length-over f h (i ∷ rows) [] b = refl
-length-over f h (i ∷ rows) (v ∷ vals) b = length-over f h rows vals (f i v b) ∙ h i v b
 
 -- the loop of `lower_rows`
 pub record Lowering (j : ℕ) (x : Float) (rows : List ℕ) (vals b₀ b : List Float) (k : ℕ) : Type 0 where
@@ -95,7 +88,7 @@ module _ (j : ℕ) (d : Float) (rows : List ℕ) (vals b : List Float) where
 
   pub length-forwardAt : length (forwardAt j d rows vals b) ≡ length b
   unfolding forwardAt
-  length-forwardAt = length-over (lowerAt j quotient) (length-lowerAt j quotient) rows vals (set b j quotient) ∙ length-set b j quotient
+  length-forwardAt = over-keeps length (lowerAt j quotient) rows vals (λ i v c m. length-lowerAt j quotient i v c) (set b j quotient) ∙ length-set b j quotient
 
   pub forward-out : length b ≤ j → b ≡ forwardAt j d rows vals b
   unfolding forwardAt
@@ -155,4 +148,4 @@ transposed-is j d rows vals b y h e = rw (← e, getD-set-same b j y nan h, set-
 
 pub length-transposedAt : (j : ℕ) (d : Float) (rows : List ℕ) (vals b : List Float) → length (transposedAt j d rows vals b) ≡ length b
 unfolding transposedAt
-length-transposedAt j d rows vals b = length-set (over (raiseAt j) rows vals b) j _ ∙ length-over (raiseAt j) (length-raiseAt j) rows vals b
+length-transposedAt j d rows vals b = length-set (over (raiseAt j) rows vals b) j _ ∙ over-keeps length (raiseAt j) rows vals (λ i v c m. length-raiseAt j i v c) b

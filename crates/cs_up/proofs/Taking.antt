@@ -13,6 +13,7 @@ use Rattle.lists.specs.Parts.{part, placed}
 use Rattle.lists.specs.Runs.{tight, zipped}
 use Rattle.lists.proofs.Folds.{Over, over-start, over-turn, over-end}
 use Rattle.lists.proofs.Parts.{length-part, getD-part}
+use Rattle.lists.proofs.Positions.{over-keeps}
 use Rattle.lists.proofs.Pushing.{part-first, part-shorter}
 use Rattle.lists.proofs.Runs.{tight-within, over-tight}
 use Rattle.cs_matrix.specs.Matrix.{valueAt}
@@ -58,10 +59,8 @@ module _ {rows : List ℕ} {vals x : List Float} (a : Takes rows vals x) (g : ti
 
 -- ---- what it leaves
 pub length-taken : (t : Float) (rows : List ℕ) (vals x : List Float) → length (over (takeAt t) rows vals x) ≡ length x
-unfolding over takeAt
-length-taken t [] vals x = refl
-length-taken t (r ∷ rows) [] x = refl
-length-taken t (r ∷ rows) (v ∷ vals) x = length-taken t rows vals _ ∙ length-set x r _
+unfolding takeAt
+length-taken t rows vals x = over-keeps length (takeAt t) rows vals (λ r v s m. length-set s r _) x
 
 -- at a row that is not taken
 pub taken-other : (t : Float) (rows : List ℕ) (vals x : List Float) (i : ℕ) → ((z : ℕ) → z < length rows → getD rows z 0 ≡ i → ⊥) → getD (over (takeAt t) rows vals x) i nan ≡ getD x i nan
