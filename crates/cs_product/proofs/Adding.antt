@@ -2,18 +2,17 @@
 use mathlib.Core.Path.{_≡_, refl, sym, _∙_}
 use mathlib.Core.Bool.{true}
 use mathlib.Core.List.{List}
-use Prim.Native.Nat.{ℕ, _+_, _-_, _≤_, _<_}
+use Prim.Native.Nat.{ℕ, _+_, _≤_, _<_}
 use native.Mathlib.Omega.{arith}
 use lib.Ieee.{Float, nan, binary64, add, mul}
 use lib.ListN.{length, getD, set, length-set}
 use Rattle.lists.specs.Folds.{over}
-use Rattle.lists.specs.Order.{rises}
 use Rattle.lists.specs.Parts.{part, placed}
 use Rattle.lists.specs.Runs.{tight, zipped}
 use Rattle.lists.proofs.Folds.{Over, over-start, over-turn, over-end}
 use Rattle.lists.proofs.Parts.{length-part}
 use Rattle.lists.proofs.Runs.{tight-within, over-tight}
-use Rattle.cs_matrix.specs.Matrix.{Matrix, matrix, Valid}
+use Rattle.cs_matrix.specs.Matrix.{Matrix, matrix}
 use Rattle.cs_matrix.proofs.Pointers.{Between, between, column-is, getD-column}
 use Rattle.cs_product.specs.Product.{addAt, addColumn}
 use Rattle.cs_product.specs.Steps.{Addable, Plain}

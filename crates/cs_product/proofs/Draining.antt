@@ -1,28 +1,28 @@
 -- The loops of `count_remaining` and `gather`: the rows that were met, taken out of x one by one. Assumes nothing.
 use mathlib.Core.Path.{_≡_, refl, sym, ap, _∙_}
-use mathlib.Core.Bool.{Bool, true, false, not, cond, _&&_, _||_}
+use mathlib.Core.Bool.{Bool, true, false, not, cond, _||_}
 use mathlib.Core.List.{List, [], _∷_, _++_, map, append-nil}
-use mathlib.Core.Logic.{_⊎_, ⊎-elim}
-use Prim.Native.Nat.{ℕ, zero, suc, _+_, _-_, _≤_, _<_}
+use mathlib.Core.Logic.{⊎-elim}
+use Prim.Native.Nat.{ℕ, zero, _+_, _≤_, _<_}
 use native.Mathlib.Numerals.{add-one}
 use native.Mathlib.Omega.{arith}
 use lib.Dec.{eqb}
-use lib.Ieee.{Float, nan, eq, ne}
-use lib.ListN.{length, getD, set, take, drop, replicate, length-append, length-set, length-map, length-replicate, getD-replicate, take-append-drop}
+use lib.Ieee.{Float, nan, ne}
+use lib.ListN.{length, getD, set, take, replicate, length-append, length-set, length-map, length-replicate, getD-replicate}
 use lib.Seq.{getD-set-same, getD-set-other, take-suc, take-all, ext-getD}
 use borrow.Author.Tests.{eq-eqb, ne-eqb}
 use Rattle.lists.specs.Calls.{none}
-use Rattle.lists.specs.Choices.{chosen, keep}
-use Rattle.lists.specs.Order.{lists, Once}
-use Rattle.lists.proofs.Bools.{eq-or-ne, not-both, or-none}
-use Rattle.lists.proofs.Chosen.{chosen-alike, chosen-within, keep-append, keep-chosen, map-more}
+use Rattle.lists.specs.Choices.{keep}
+use Rattle.lists.specs.Order.{lists}
+use Rattle.lists.proofs.Bools.{eq-or-ne, or-none}
+use Rattle.lists.proofs.Chosen.{chosen-within, map-more}
 use Rattle.cs_columns.specs.Columns.{laid}
 use Rattle.cs_columns.proofs.Filling.{laid-none, laid-more, length-laid}
 use Rattle.lists.proofs.Kept.{keep-next, keep-front, keep-within}
 use Rattle.lists.proofs.Skipping.{lists-nowhere}
 use Rattle.cs_product.specs.Product.{remains}
 use Rattle.cs_product.specs.Steps.{Drain, Taking}
-use Rattle.lists.proofs.Onces.{lists-snoc, once-new, keep-card, card-once}
+use Rattle.lists.proofs.Onces.{lists-snoc, once-new, card-once}
 
 -- ---- x, with k rows taken out
 module _ (n : ℕ) (rows : List ℕ) where

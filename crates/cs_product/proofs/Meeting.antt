@@ -1,9 +1,9 @@
 -- The loops of `add_column` and `accumulate`: rows met, marked and listed. Assumes nothing.
-use mathlib.Core.Path.{_≡_, refl, sym, ap, _∙_}
+use mathlib.Core.Path.{_≡_, refl, sym, _∙_}
 use mathlib.Core.Bool.{Bool, true, false, _||_}
 use mathlib.Core.List.{List, [], _∷_, _++_}
-use mathlib.Core.Logic.{_⊎_, ⊎-elim}
-use Prim.Native.Nat.{ℕ, zero, suc, _+_, _-_, _≤_, _<_}
+use mathlib.Core.Logic.{⊎-elim}
+use Prim.Native.Nat.{ℕ, zero, _+_, _≤_, _<_}
 use native.Mathlib.Nat.{eq-or-lt-of-le}
 use native.Mathlib.Numerals.{add-one}
 use native.Mathlib.Omega.{arith}
@@ -13,7 +13,6 @@ use lib.ListN.{length, getD, set, take, length-append, length-set, length-replic
 use lib.Seq.{getD-set-same, getD-set-other, getD-take, take-suc-set, length-take-le}
 use borrow.Author.Tests.{eq-eqb, ne-eqb}
 use Rattle.lists.specs.Calls.{none}
-use Rattle.lists.specs.Choices.{chosen}
 use Rattle.lists.specs.Folds.{over}
 use Rattle.lists.specs.Order.{lists, Once, no-more}
 use Rattle.lists.specs.Parts.{part}
@@ -21,8 +20,8 @@ use Rattle.lists.proofs.Bools.{eq-or-ne, not-both, or-none, or-false}
 use Rattle.lists.proofs.Chosen.{chosen-within}
 use Rattle.lists.proofs.Folds.{Over, over-start, over-turn, over-end}
 use Rattle.lists.proofs.Parts.{length-part}
-use Rattle.cs_matrix.specs.Matrix.{Matrix, matrix, column, Valid}
-use Rattle.cs_matrix.proofs.Pointers.{Between, between, column-is, length-column, getD-column}
+use Rattle.cs_matrix.specs.Matrix.{Matrix, matrix, Valid}
+use Rattle.cs_matrix.proofs.Pointers.{Between, between, column-is, getD-column}
 use Rattle.lists.proofs.Skipping.{lists-nowhere}
 use Rattle.cs_product.specs.Product.{addAt, addColumn}
 use Rattle.cs_product.specs.Steps.{Met, Fresh, Adding, Starting}

@@ -1,26 +1,25 @@
 -- The loops of `count` and `fill`, and the ways out of `serve` and `product`. Assumes nothing.
 use mathlib.Core.Path.{_≡_, refl, sym, ap as cong, _∙_}
-use mathlib.Core.Bool.{Bool, true, false, not, cond, _&&_, _||_}
+use mathlib.Core.Bool.{Bool, true, false, not, cond, _&&_}
 use mathlib.Core.List.{List, [], _∷_, map}
-use Prim.Native.Nat.{ℕ, zero, suc, _+_, _-_, _*_, _≤_, _<_, min, max}
+use Prim.Native.Nat.{ℕ, _+_, _-_, _*_, _≤_, _<_, min, max}
 use native.Mathlib.Omega.{arith}
 use lib.Dec.{ltb, eqb}
 use lib.Ieee.{Float, nan}
-use lib.ListN.{length, getD, set, drop, replicate, length-map, length-replicate, getD-replicate}
-use lib.Seq.{ext-getD, getD-drop, getD-append-add}
+use lib.ListN.{length, getD, set, replicate, length-map, length-replicate, getD-replicate}
 use borrow.Author.Tests.{eqb-true}
 use Rattle.lists.specs.Calls.{lowest, none, narrow, Scratch, scratch, cleared, wiped, Lent, lent, outputs, worked, leaves}
 use Rattle.lists.specs.Choices.{chosen}
 use Rattle.lists.specs.Parts.{part, placed}
 use Rattle.lists.proofs.Bools.{not-holds, failed}
-use Rattle.lists.proofs.Calls.{first, then, early, kept, late, done, left-alone, left-written, wiped-each, not-narrow}
-use Rattle.lists.proofs.Clearing.{length-cleared, cleared-front, cleared-same, cleared-again}
+use Rattle.lists.proofs.Calls.{first, then, early, kept, left-alone, left-written, wiped-each, not-narrow}
+use Rattle.lists.proofs.Clearing.{length-cleared, cleared-front, cleared-again}
 use Rattle.lists.proofs.Laying.{part-long}
-use Rattle.lists.proofs.Parts.{length-part, getD-part, length-placed}
+use Rattle.lists.proofs.Parts.{length-part}
 use Rattle.lists.proofs.Returning.{front-zeros, cleared-after}
 use Rattle.lists.proofs.Tables.{length-table}
-use Rattle.cs_matrix.specs.Matrix.{pattern, Matrix, matrix, Stored, stored, column, short, written, Valid}
-use Rattle.cs_matrix.proofs.Pointers.{Between, between, column-is, length-column, getD-column}
+use Rattle.cs_matrix.specs.Matrix.{pattern, Matrix, matrix, Stored, stored, short, written, Valid}
+use Rattle.cs_matrix.proofs.Pointers.{Between, between, column-is, getD-column}
 use Rattle.cs_columns.specs.Columns.{joined, withColumns, withEntries, laid, judgedTwo, shortFor}
 use Rattle.cs_columns.proofs.Filling.{Filling, filling-start, filling-turn, filling-end, filling-at, filling-i, filling-v, room-i, room-v, room-p, room-all}
 use Rattle.cs_columns.proofs.Joining.{joined-none, length-more, joined-alike, entries-within, entries-valid}
@@ -344,24 +343,6 @@ module _ (n need : ℕ) (g : n ≤ need) (work : Scratch) {t : Bool} (f : t ≡ 
       (cleared-after 0 n need (s .w3) y3 g (omega (arith, g, w3-long)) c ∙ (rw w3-is (cleared-again 0 need (work .w3))))
       (cleared-after none n need (s .x) z g (omega (arith, g, x-long)) d ∙ (rw x-is (cleared-again none need (work .x))))
 
--- wiping keeps the lengths
-module _ (need : ℕ) (work : Scratch) {s : Scratch} (q : s ≡ wiped need work) where
-  pub wiped-w1 : length (s .w1) ≡ length (work .w1)
-  unfolding wiped
-  wiped-w1 = cong (λ (z : Scratch). length (z .w1)) q ∙ length-cleared 0 need (work .w1)
-
-  pub wiped-w2 : length (s .w2) ≡ length (work .w2)
-  unfolding wiped
-  wiped-w2 = cong (λ (z : Scratch). length (z .w2)) q ∙ length-cleared 0 need (work .w2)
-
-  pub wiped-w3 : length (s .w3) ≡ length (work .w3)
-  unfolding wiped
-  wiped-w3 = cong (λ (z : Scratch). length (z .w3)) q ∙ length-cleared 0 need (work .w3)
-
-  pub wiped-x : length (s .x) ≡ length (work .x)
-  unfolding wiped
-  wiped-x = cong (λ (z : Scratch). length (z .x)) q ∙ length-cleared none need (work .x)
-
 -- ---- the ways out of `product`
 late-leaves : (need : ℕ) (w : Stored) (old : Lent Stored) (t : Bool) {r : ℕ} {new : Stored} {s : Scratch} → r ≡ lowest ((7, t) ∷ []) → new ≡ outputs r w (old .out) → s ≡ wiped need (old .work) → lent new s ≡ leaves r need w old
 unfolding leaves worked
@@ -446,7 +427,7 @@ module _ (n m : ℕ) (pa ia : List ℕ) (va : List Float) (k l : ℕ) (pb ib : L
 
           module _ (y1 y2 y3 : List ℕ) (y4 : List Float) (e1 : length y1 ≡ length (part 0 n (s .w1))) (e2 : length y2 ≡ length (part 0 n (s .w2))) (e3 : length y3 ≡ length (part 0 n (s .w3))) (e4 : length y4 ≡ length (part 0 n (s .x)))
               {s₂ : Scratch} (e : s₂ ≡ wiped (m3 + 1) (scratch (placed 0 n (s .w1) y1) (placed 0 n (s .w2) y2) (placed 0 n (s .w3) y3) (placed 0 n (s .x) y4))) where
-            pub work-wiped : s₂ ≡ wiped (m3 + 1) (old .work)
+            work-wiped : s₂ ≡ wiped (m3 + 1) (old .work)
             work-wiped =
                 wiped-again n (m3 + 1) n-in (old .work) ft h q y1 y2 y3 y4
                 (e1 ∙ part-long n (s .w1) in-w1)

@@ -2,12 +2,12 @@
 use mathlib.Core.Path.{_≡_, refl, sym, ap, _∙_}
 use mathlib.Core.Bool.{Bool, true, false, not, _&&_}
 use mathlib.Core.List.{List, map}
-use Prim.Native.Nat.{ℕ, _+_, _-_, _≤_, _<_}
+use Prim.Native.Nat.{ℕ, _+_, _≤_, _<_}
 use native.Mathlib.Omega.{arith}
 use lib.Ieee.{Float, nan, eq, ofBits}
 use lib.ListN.{length, getD, take, replicate}
 use lib.Seq.{getD-take, length-take-le}
-use Rattle.lists.specs.Calls.{none, onto}
+use Rattle.lists.specs.Calls.{none}
 use Rattle.lists.specs.Choices.{chosen, keep}
 use Rattle.lists.specs.Folds.{over}
 use Rattle.lists.specs.Order.{lists, Once}

@@ -1,10 +1,10 @@
 -- The loop of `span_of`; and what a span says of a column of the product: outside it nothing is added, and no more rows remain than it
 -- is long or than there are entries. Assumes nothing.
 use mathlib.Core.Path.{_≡_, refl, sym, ap, _∙_}
-use mathlib.Core.Bool.{Bool, true, false, not}
+use mathlib.Core.Bool.{true, not}
 use mathlib.Core.List.{List, [], _∷_}
 use mathlib.Core.Logic.{⊎-elim}
-use Prim.Native.Nat.{ℕ, zero, suc, _+_, _-_, _*_, _≤_, _<_, min, max}
+use Prim.Native.Nat.{ℕ, suc, _+_, _-_, _*_, _≤_, _<_, min, max}
 use native.Mathlib.Nat.{eq-or-lt-of-le}
 use native.Mathlib.Omega.{arith}
 use lib.Ieee.{Float, nan, eq, binary64, add, mul}
@@ -17,7 +17,7 @@ use Rattle.lists.specs.Order.{rises}
 use Rattle.lists.proofs.Folds.{Along, along-start, along-turn, along-end}
 use Rattle.lists.proofs.HowMany.{chosen-but, chosen-between}
 use Rattle.lists.proofs.Ordering.{rises-apart}
-use Rattle.cs_matrix.specs.Matrix.{Pattern, pattern, Matrix, column, ValidPattern}
+use Rattle.cs_matrix.specs.Matrix.{Pattern, pattern, Matrix, column}
 use Rattle.cs_matrix.proofs.Pointers.{Between, between, length-column, getD-column}
 use Rattle.cs_product.specs.Product.{addAt, addColumn, remains}
 use Rattle.cs_product.specs.Steps.{columnOf, Within, workOf, Spanned}

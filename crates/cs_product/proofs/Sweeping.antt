@@ -1,12 +1,12 @@
 -- The loop of `sweep`, and a column that is written by its span. Assumes nothing.
 use mathlib.Core.Path.{_≡_, refl, sym, ap, _∙_}
-use mathlib.Core.Bool.{Bool, true, false, not}
+use mathlib.Core.Bool.{true, false}
 use mathlib.Core.List.{List, [], _∷_, _++_, map}
 use mathlib.Core.Logic.{⊎-elim}
-use Prim.Native.Nat.{ℕ, zero, suc, _+_, _-_, _≤_, _<_}
+use Prim.Native.Nat.{ℕ, _+_, _≤_, _<_}
 use native.Mathlib.Nat.{eq-or-lt-of-le}
 use native.Mathlib.Omega.{arith}
-use lib.Ieee.{Float, nan, eq, ne}
+use lib.Ieee.{Float, nan, ne}
 use lib.ListN.{length, getD, set, replicate, length-append, length-set, length-map, length-replicate, getD-replicate}
 use lib.Seq.{getD-set-same, getD-set-other, ext-getD}
 use Rattle.lists.specs.Calls.{none}
@@ -20,7 +20,7 @@ use Rattle.cs_matrix.specs.Matrix.{Matrix}
 use Rattle.cs_columns.specs.Columns.{laid}
 use Rattle.cs_columns.proofs.Filling.{laid-none, laid-more, length-laid}
 use Rattle.cs_product.specs.Product.{addColumn, remains}
-use Rattle.cs_product.specs.Steps.{columnOf, Fresh, Starting, Within, Spanned, Plain, Swept, Dense, Column}
+use Rattle.cs_product.specs.Steps.{columnOf, Fresh, Within, Spanned, Swept, Dense, Column}
 use Rattle.cs_product.proofs.Remaining.{dropped}
 use Rattle.cs_product.proofs.Spanning.{none-below, none-behind}
 

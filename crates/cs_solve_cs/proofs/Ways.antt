@@ -6,8 +6,7 @@ use Prim.Native.Nat.{ℕ, zero, suc, _+_, _-_, _≤_, _<_}
 use native.Mathlib.Omega.{arith}
 use lib.Dec.{T, ltb, eqb}
 use lib.Ieee.{Float, nan, binary64, fits}
-use lib.ListN.{length, getD, drop, replicate, length-map, length-replicate, getD-replicate}
-use lib.Seq.{ext-getD, getD-drop, getD-append-add}
+use lib.ListN.{length, getD, replicate, length-map}
 use borrow.Author.Tests.{lt-ltb, le-ltb, eq-eqb, ne-eqb, eqb-true}
 use Rattle.lists.specs.Calls.{lowest, both, disagree, lower, onto, none, Scratch, scratch, narrow, cleared, wiped, Lent, lent, outputs, worked, leaves}
 use Rattle.lists.specs.Choices.{keep, some, firstOr, Found}
@@ -15,8 +14,9 @@ use Rattle.lists.specs.Folds.{along, over}
 use Rattle.lists.specs.Parts.{part, placed}
 use Rattle.lists.proofs.Bools.{not-holds, passed-over}
 use Rattle.lists.proofs.Calls.{Early, From, below-7, first, then, lowest-both, lower-alone, lower-none, not-narrow, wiped-each, kept}
-use Rattle.lists.proofs.Clearing.{length-cleared, cleared-front, cleared-same, cleared-again}
-use Rattle.lists.proofs.Parts.{length-part, getD-part, length-placed}
+use Rattle.lists.proofs.Clearing.{length-cleared, cleared-again}
+use Rattle.lists.proofs.Parts.{length-part}
+use Rattle.lists.proofs.Returning.{front-zeros, cleared-after}
 use Rattle.cs_matrix.specs.Matrix.{Matrix, matrix, pattern, Vector, vector, judgedPattern, judged, judgedVector, needed, Valid, ValidVector}
 use Rattle.cs_matrix.proofs.Refusing.{from-judged, from-vector, from-disagree}
 use Rattle.cs_matrix.proofs.Validity.{valid, valid-vector}
@@ -138,22 +138,6 @@ module _ (n : ℕ) (p i : List ℕ) (v : List Float) (bi : List ℕ) (bv : List 
             both-are : {i i' : List ℕ} {v v' : List Float} → i ≡ i' → v ≡ v' → stored i v ≡ stored i' v'
             both-are r o = λ k. stored (r k) (o k)
 
--- ---- the scratch that a part was lent of
-part-clean : {A : Type 0} (z : A) (n : ℕ) (l : List A) → n + 1 ≤ length l → part 0 n (cleared z (n + 1) l) ≡ replicate n z
-part-clean z n l h =
-    let long = length-part 0 n (cleared z (n + 1) l) (omega (arith, length-cleared z (n + 1) l)) in
-    ext-getD z _ _ (long ∙ (omega (arith, length-replicate n z)))
-    (λ k m. getD-part 0 n (cleared z (n + 1) l) k z (omega (arith, long)) ∙ cleared-front z (n + 1) l (0 + k) (omega (arith, long)) ∙ sym (getD-replicate n k z z (omega (arith, long))))
-
-clean-again : {A : Type 0} (z : A) (n : ℕ) (l ys : List A) → n + 1 ≤ length l → length ys ≡ n → cleared z (n + 1) (placed 0 n l ys) ≡ cleared z (n + 1) l
-clean-again z n l ys h e = cleared-same z (n + 1) (placed 0 n l ys) l (length-placed 0 n l ys (omega arith) (omega arith) (omega arith)) rest
-  where
-    rest : (q : ℕ) → n + 1 ≤ q → getD (placed 0 n l ys) q z ≡ getD l q z
-    rest q g =
-        let f : length ys + (q - length ys) ≡ q = omega arith in
-        let d : n - 0 + (q - length ys) ≡ q = omega arith in
-        (rw f at (getD-append-add ys (drop (n - 0) (drop 0 l)) (q - length ys) z)) ∙ (rw d at (getD-drop (n - 0) l (q - length ys) z))
-
 -- ---- what 7, 10 and 0 leave
 late-leaves : (n : ℕ) (p i : List ℕ) (v : List Float) (bi : List ℕ) (bv : List Float) (old : Lent Stored) {new : Stored} {s : Scratch}
     → (let m = lowest (later (matrix n n p i v) (vector n bi bv) (old .out)) in let w = written (solution (matrix n n p i v) (vector n bi bv)) (old .out) in
@@ -190,17 +174,17 @@ module _ (n : ℕ) (work : Scratch) {t : Bool} (f : t ≡ narrow (n + 1) work) (
   ready k p i v bi bv e h =
       let w = not-narrow (n + 1) work (sym f ∙ g) in
       let c = passed k n p i v bi bv e h in
-      record { valid = c .square; side = c .side; clean = rw w1-is (part-clean 0 n (work .w1) (w .in-w1)); zeros = rw x-is (part-clean none n (work .x) (w .in-x)) }
+      record { valid = c .square; side = c .side; clean = rw w1-is (front-zeros 0 n (n + 1) (work .w1) (omega arith) (w .in-w1)); zeros = rw x-is (front-zeros none n (n + 1) (work .x) (omega arith) (w .in-x)) }
 
   wiped-is : {w : List ℕ} (x : List ℕ) {y : List Float} (z : List Float) → length x ≡ length (part 0 n (s .w1)) → length z ≡ length (part 0 n (s .x))
       → w ≡ cleared 0 (n + 1) (placed 0 n (s .w1) x) → y ≡ cleared none (n + 1) (placed 0 n (s .x) z) → scratch w (s .w2) (s .w3) y ≡ wiped (n + 1) work
   unfolding wiped
   wiped-is x z lx lz ew ey =
       wiped-each (n + 1) work
-      (ew ∙ clean-again 0 n (s .w1) x w1-long (omega (arith, lx, length-part 0 n (s .w1) (omega (arith, w1-long)))) ∙ (rw w1-is (cleared-again 0 (n + 1) (work .w1))))
+      (ew ∙ cleared-after 0 n (n + 1) (s .w1) x (omega arith) (omega (arith, w1-long)) (omega (arith, lx, length-part 0 n (s .w1) (omega (arith, w1-long)))) ∙ (rw w1-is (cleared-again 0 (n + 1) (work .w1))))
       (ap (λ (u : Scratch). u .w2) q)
       (ap (λ (u : Scratch). u .w3) q)
-      (ey ∙ clean-again none n (s .x) z x-long (omega (arith, lz, length-part 0 n (s .x) (omega (arith, x-long)))) ∙ (rw x-is (cleared-again none (n + 1) (work .x))))
+      (ey ∙ cleared-after none n (n + 1) (s .x) z (omega arith) (omega (arith, x-long)) (omega (arith, lz, length-part 0 n (s .x) (omega (arith, x-long)))) ∙ (rw x-is (cleared-again none (n + 1) (work .x))))
 
 -- ---- what is promised besides
 promised : {n : ℕ} {p i : List ℕ} {v : List Float} {bi : List ℕ} {bv : List Float} → Valid (matrix n n p i v) → ValidVector (vector n bi bv) → ((k : ℕ) → T (fits binary64 (getD bv k nan)))
