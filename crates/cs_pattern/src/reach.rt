@@ -1,11 +1,11 @@
 // A column of U: from each of its stored rows up the tree, until the column's number is passed or an index that is listed already.
 // An index that is listed in column k is marked by k + 1, so that no mark has to be taken back.
 ghost use mathlib.Core.Path.{_≡_};
-ghost use mathlib.Core.List.{List, [], List·Memᴰ};
-ghost use Prim.Native.Nat.{ℕ, _+_, _≤_, _<_};
-ghost use lib.ListN.{length};
+ghost use mathlib.Core.List.{List, [], _++_};
+ghost use Prim.Native.Nat.{ℕ, _+_, _≤_};
+ghost use lib.ListN.{length, take, drop};
 ghost use Rattle.cs_tree.specs.Pattern.{paths};
-ghost use Rattle.cs_tree.specs.Steps.{Walks, Marks, Walked, chain};
+ghost use Rattle.cs_tree.specs.Steps.{Walks, Marks, Walked, Roomy, Traced};
 use lists::numbers::wide;
 
 // Walks up from a row and marks what was not yet listed. The answer is how many there are.
@@ -28,18 +28,42 @@ fn walk(k: u32, row: u32, par: &[u32], mark: &mut [u32]) -> usize
     len
 }
 
-// Walks up from a row once more and lists the way, as far as there is room.
-fn retrace(row: u32, par: &[u32], out: &mut [u32])
-    requires { ⌜ ((x : ℕ) → List·Memᴰ x (chain (length (now out)) (now par) row) → x < length (now par)) ⌝ }
-    ensures { λ _. ⌜ now (out .exit) ≡ chain (length (now (out .entry))) (now (par .entry)) row ⌝ }
+// The same, and what was not yet listed is listed in the front of out, which has room for it.
+fn trace(k: u32, row: u32, par: &[u32], mark: &mut [u32], out: &mut [u32]) -> usize
+    requires { ⌜ Walks k (now par) (now mark) × Roomy k (now par) row (now mark) (now out) ⌝ }
+    ensures { λ r. ⌜ ((s : Roomy k (now (par .entry)) row (now (mark .entry)) (now (out .entry))) → Traced k (now (par .entry)) row (s .older) r (now (mark .exit)) (now (out .exit))) ⌝ }
 {
-    let mut i = row;
-    let mut t = 0;
-    while t < out.len() {
-        out[t] = i;
-        i = par[wide(i)];
-        t += 1;
+    let stamp = k + 1;
+    let mut c = row;
+    let mut len = 0;
+    while c <= k {
+        let i = wide(c);
+        if mark[i] == stamp {
+            return len;
+        }
+        mark[i] = stamp;
+        out[len] = c;
+        len += 1;
+        c = par[i];
     }
+    len
+}
+
+// Moves the first len elements up, so that they end at top. The answer is where they then start.
+fn shift(len: usize, top: usize, out: &mut [u32]) -> usize
+    requires { ⌜ (len ≤ top) × (top ≤ length (now out)) ⌝ }
+    ensures { λ r. ⌜ (r + len ≡ top) × (drop r (now (out .exit)) ≡ take len (now (out .entry)) ++ drop top (now (out .entry))) ⌝ }
+{
+    let low = top - len;
+    if low == 0 {
+        return low;
+    }
+    let mut t = len;
+    while t > 0 {
+        t -= 1;
+        out[low + t] = out[t];
+    }
+    low
 }
 
 // How many entries column k of U has.
@@ -57,7 +81,7 @@ pub fn column_length(k: u32, rows: &[u32], par: &[u32], mark: &mut [u32]) -> usi
     count
 }
 
-// Column k of U, in out, which has room for exactly that: a stack filled from its end.
+// Column k of U, in out, which has room for exactly that: a stack filled from its end, whose free front each way is listed in first.
 pub fn reach(k: u32, rows: &[u32], par: &[u32], mark: &mut [u32], out: &mut [u32])
     requires { ⌜ Walks k (now par) (now mark) × Marks k (now mark) [] × (length (now out) ≡ length (paths (now par) k (now rows) [])) ⌝ }
     ensures { λ _. ⌜ (now (out .exit) ≡ paths (now (par .entry)) k (now (rows .entry)) []) × Marks k (now (mark .exit)) (now (out .exit)) ⌝ }
@@ -65,9 +89,8 @@ pub fn reach(k: u32, rows: &[u32], par: &[u32], mark: &mut [u32], out: &mut [u32
     let mut top = out.len();
     let mut q = 0;
     while q < rows.len() {
-        let e = top;
-        top -= walk(k, rows[q], par, mark);
-        retrace(rows[q], par, &mut out[top..e]);
+        let len = trace(k, rows[q], par, mark, &mut out[0..top]);
+        top = shift(len, top, out);
         q += 1;
     }
 }

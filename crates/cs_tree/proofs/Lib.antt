@@ -12,6 +12,7 @@ pub mod Reading
 pub mod Promises
 pub mod Climbing
 pub mod Walking
+pub mod Tracing
 pub mod Growing
 pub mod Laid
 pub mod Between

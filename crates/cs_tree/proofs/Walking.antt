@@ -1,4 +1,4 @@
--- The loops of a column of U: the walk from one row with its marks, the same way again into the slice, and row by row. Assumes nothing.
+-- The loops of a column of U: the walk from one row with its marks, and row by row. Assumes nothing.
 use mathlib.Core.Path.{_≡_, refl, sym, ap, _∙_}
 use mathlib.Core.Bool.{Bool, true, false, _||_}
 use mathlib.Core.List.{List, [], _∷_, _++_, append-nil, append-assoc, List·Memᴰ, List·Memᴰ·head, List·Memᴰ·tail, List·Memᴰ·not-nil, List·Memᴰ·cases-cons, List·Memᴰ·append-cases}
@@ -21,7 +21,7 @@ use Rattle.lists.proofs.Members.{lists-same, lists-other, lists-append, listed-
 use Rattle.lists.proofs.Folds.{Along, along-start, along-turn, along-end}
 use Rattle.cs_tree.specs.Tree.{root}
 use Rattle.cs_tree.specs.Pattern.{path, paths}
-use Rattle.cs_tree.specs.Steps.{Above, Marks, Walks, chain, way, Walked}
+use Rattle.cs_tree.specs.Steps.{Above, Marks, Walks, way, Walked}
 use Rattle.cs_tree.proofs.Steps.{path-over, path-seen, path-new}
 
 -- ---- marks
@@ -83,7 +83,7 @@ module _ {k : ℕ} {par : List ℕ} {row : ℕ} {older : List ℕ} {i len : ℕ}
   pub walking-over : k < i → Walked k par row older len mark
   walking-over h = ended (path-over (v .fuel) par k i older h)
 
-  not-done : lists i (v .done ++ older) ≡ lists i older
+  pub not-done : lists i (v .done ++ older) ≡ lists i older
   not-done = elim (listed-or-not i (v .done)) [
     | inl q ↦ absurd (omega (arith, v .low i (q .1)))
     | inr q ↦ lists-append i (v .done) older ∙ ap (λ (b : Bool). b || lists i older) (q .0)
@@ -160,82 +160,6 @@ module _ {k : ℕ} {par : List ℕ} {row : ℕ} {mark₀ mark : List ℕ} {i len
   pub walk-over : k < i → (len ≤ k + 1) × ((older : List ℕ) → Marks k mark₀ older → Walked k par row older len mark)
   walk-over h = (v .short, λ older m. walking-over (v .tells older m) h)
 
--- ---- the same way again
--- a path is a chain of parents, each at most k
-pub path-chain : (f : ℕ) (par : List ℕ) (k i : ℕ) (seen : List ℕ) → path f par k i seen ≡ chain (length (path f par k i seen)) par i
-unfolding path chain
-path-chain zero par k i seen = refl
-path-chain (suc f) par k i seen = go (decLe i k) (listed-or-not i seen) (path-chain f par k (getD par i root) seen)
-  where
-    go : Dec (i ≤ k) → ((lists i seen ≡ true) × List·Memᴰ i seen) ⊎ ((lists i seen ≡ false) × ¬ List·Memᴰ i seen)
-        → path f par k (getD par i root) seen ≡ chain (length (path f par k (getD par i root) seen)) par (getD par i root) → path (suc f) par k i seen ≡ chain (length (path (suc f) par k i seen)) par i
-    go (no n) d ih = rw (path-over (suc f) par k i seen (omega arith))
-    go (yes l) (inl d) ih = rw (path-seen (suc f) par k i seen l (d .0))
-    go (yes l) (inr d) ih = rw (path-new f par k i seen l (d .0)) (ap (λ (t : List ℕ). i ∷ t) ih)
-
-pub path-most : (f : ℕ) (par : List ℕ) (k i : ℕ) (seen : List ℕ) {x : ℕ} → List·Memᴰ x (path f par k i seen) → x ≤ k
-unfolding path
-path-most zero par k i seen m = absurd (List·Memᴰ·not-nil m)
-path-most (suc f) par k i seen {x} m = go (decLe i k) (listed-or-not i seen) (path-most f par k (getD par i root) seen)
-  where
-    go : Dec (i ≤ k) → ((lists i seen ≡ true) × List·Memᴰ i seen) ⊎ ((lists i seen ≡ false) × ¬ List·Memᴰ i seen) → (List·Memᴰ x (path f par k (getD par i root) seen) → x ≤ k) → x ≤ k
-    go (no n) d ih = absurd (List·Memᴰ·not-nil (rw (path-over (suc f) par k i seen (omega arith)) at m))
-    go (yes l) (inl d) ih = absurd (List·Memᴰ·not-nil (rw (path-seen (suc f) par k i seen l (d .0)) at m))
-    go (yes l) (inr d) ih = elim (List·Memᴰ·cases-cons (rw (path-new f par k i seen l (d .0)) at m)) [ inl e ↦ omega (arith, e) | inr t ↦ ih t ]
-
-pub length-chain : (m : ℕ) (par : List ℕ) (i : ℕ) → length (chain m par i) ≡ m
-unfolding chain
-length-chain zero par i = refl
-length-chain (suc m) par i = ap suc (length-chain m par (getD par i root))
-
--- the loop of `retrace`: what is written, and what is still to come
-pub record Retracing (par : List ℕ) (row : ℕ) (out₀ out : List ℕ) (i t : ℕ) : Type 0 where
-  pub within : (x : ℕ) → List·Memᴰ x (chain (length out₀) par row) → x < length par
-  pub long : length out ≡ length out₀
-  pub inside : t ≤ length out
-  pub goes : take t out ++ chain (length out - t) par i ≡ chain (length out₀) par row
-
-pub retracing-start : {par : List ℕ} {row : ℕ} {out : List ℕ} → ((x : ℕ) → List·Memᴰ x (chain (length out) par row) → x < length par) → Retracing par row out out row 0
-retracing-start {out = out} h = let z : length out - 0 ≡ length out = omega arith in record { within = h; long = refl; inside = omega arith; goes = rw z }
-
-module _ {par : List ℕ} {row : ℕ} {out₀ out : List ℕ} {i t : ℕ} (v : Retracing par row out₀ out i t) where
-  module _ (h : t < length out) where
-    left : length out - t ≡ suc (length out - (t + 1))
-    left = omega arith
-
-    next : chain (length out - t) par i ≡ i ∷ chain (length out - (t + 1)) par (getD par i root)
-    unfolding chain
-    next = ap (λ (m : ℕ). chain m par i) left
-
-    here : List·Memᴰ i (chain (length out₀) par row)
-    here = let g = v .goes in let f = rw next at g in rw (← f) (mem (take t out))
-      where
-        mem : (l : List ℕ) → List·Memᴰ i (l ++ (i ∷ chain (length out - (t + 1)) par (getD par i root)))
-        mem [] = List·Memᴰ·head refl
-        mem (x ∷ l) = List·Memᴰ·tail (mem l)
-
-    pub retracing-in : i < length par
-    retracing-in = v .within i here
-
-    pub retracing-turn : {w : ℕ} → w ≡ i → Retracing par row out₀ (set out t i) (getD par w 0) (t + 1)
-    retracing-turn {w = w} e =
-        let n = getD par w 0 in
-        let f : getD par i root ≡ n = getD-any par i root 0 retracing-in ∙ ap (λ (x : ℕ). getD par x 0) (sym e) in
-        let g = v .goes in
-        record {
-          within = v .within;
-          long = length-set out t i ∙ v .long;
-          inside = omega (arith, length-set out t i);
-          goes = rw (length-set out t i, written-more out t i (chain (length out - (t + 1)) par n) h) (rw (next, f) at g);
-        }
-
-  pub retracing-done : length out ≤ t → out ≡ chain (length out₀) par row
-  unfolding chain
-  retracing-done h =
-      let e : length out - t ≡ 0 = omega arith in
-      let g = v .goes in
-      sym (append-nil out) ∙ (rw (take-all t out h, e) at g)
-
 -- ---- row by row
 abbrev pub front : ℕ → List ℕ → ℕ → List ℕ → List ℕ
 front k par i older = way k par i older ++ older
@@ -253,28 +177,29 @@ pub record Listing (k : ℕ) (par rows : List ℕ) (mark : List ℕ) (count q : 
   pub marks : Marks k mark older
   pub counts : count ≡ length older
 
-pub listing-start : {k : ℕ} {par : List ℕ} (rows : List ℕ) {mark : List ℕ} → Marks k mark [] → Listing k par rows mark 0 0
+unfoldable pub listing-start : {k : ℕ} {par : List ℕ} (rows : List ℕ) {mark : List ℕ} → Marks k mark [] → Listing k par rows mark 0 0
 listing-start {k = k} {par = par} rows v = record { older = []; is = along-start (front k par) rows []; marks = v; counts = refl }
 
 module _ {k : ℕ} {par rows mark : List ℕ} {count q : ℕ} (v : Listing k par rows mark count q) where
-  module _ {row len : ℕ} {mark1 : List ℕ} (h : q < length rows) (e : row ≡ getD rows q 0) (w : Walked k par row (v .older) len mark1) where
-    turned : Along (front k par) rows [] (front k par row (v .older)) (q + 1)
+  module _ {row : ℕ} (h : q < length rows) (e : row ≡ getD rows q 0) where
+    pub turned : Along (front k par) rows [] (front k par row (v .older)) (q + 1)
     turned = along-turn (front k par) rows 0 (v .is) h (ap (λ (r : ℕ). front k par r (v .older)) e)
 
-    pub listing-turn : {c : ℕ} → c ≡ count + len → Listing k par rows mark1 c (q + 1)
+    -- there is room for the new path
+    pub listing-room : count + length (way k par row (v .older)) ≤ length (paths par k rows [])
+    unfolding paths
+    listing-room =
+        omega (arith, ap length (turned .rest), longer k par (drop (q + 1) rows) (front k par row (v .older)), length-append (way k par row (v .older)) (v .older), v .counts)
+
+  module _ {row len : ℕ} {mark1 : List ℕ} (h : q < length rows) (e : row ≡ getD rows q 0) (w : Walked k par row (v .older) len mark1) where
+    unfoldable pub listing-turn : {c : ℕ} → c ≡ count + len → Listing k par rows mark1 c (q + 1)
     listing-turn f =
         record {
           older = front k par row (v .older);
-          is = turned;
+          is = turned h e;
           marks = w .marks;
           counts = omega (arith, length-append (way k par row (v .older)) (v .older), w .is, v .counts);
         }
-
-    -- there is room for the new path
-    pub listing-room : count + len ≤ length (paths par k rows [])
-    unfolding paths
-    listing-room =
-        omega (arith, ap length (turned .rest), longer k par (drop (q + 1) rows) (front k par row (v .older)), length-append (way k par row (v .older)) (v .older), w .is, v .counts)
 
   pub listing-done : length rows ≤ q → (count ≡ length (paths par k rows [])) × Marks k mark (paths par k rows [])
   unfolding paths
@@ -307,76 +232,3 @@ tallying-turn v h e w =
       fits = omega (arith, v .fits, v .asks .small, w .0);
       is = listing-turn (v .is) h refl (w .1 (v .is .older) (v .is .marks)) refl;
     }
-
--- the loop of `reach`
-pub record Reaching (k : ℕ) (par rows mark₀ mark out₀ out : List ℕ) (top q : ℕ) : Type 0 where
-  pub asks : Walks k par mark
-  pub same : length mark ≡ length mark₀
-  pub long : length out ≡ length out₀
-  pub room : length out ≡ length (paths par k rows [])
-  pub count : ℕ
-  pub rest : top + count ≡ length out
-  pub is : Listing k par rows mark count q
-  pub back : drop top out ≡ is .older
-
-pub reaching-start : {k : ℕ} {par : List ℕ} (rows : List ℕ) {mark : List ℕ} (out : List ℕ) → Walks k par mark → Marks k mark [] → length out ≡ length (paths par k rows []) → Reaching k par rows mark mark out out (length out) 0
-unfolding listing-start
-reaching-start rows out v m e =
-    record {
-      asks = v;
-      same = refl;
-      long = refl;
-      room = e;
-      count = 0;
-      rest = omega arith;
-      is = listing-start rows m;
-      back = drop-length out;
-    }
-
-module _ {k : ℕ} {par rows mark₀ mark out₀ out : List ℕ} {top q : ℕ} (v : Reaching k par rows mark₀ mark out₀ out top q) where
-  module _ {len : ℕ} {mark1 : List ℕ} (h : q < length rows) (e : length mark1 ≡ length mark) (w : (len ≤ k + 1) × ((older : List ℕ) → Marks k mark older → Walked k par (getD rows q 0) older len mark1)) where
-    walked : Walked k par (getD rows q 0) (v .is .older) len mark1
-    walked = w .1 (v .is .older) (v .is .marks)
-
-    -- there is room
-    pub reaching-room : len ≤ top
-    reaching-room = omega (arith, listing-room (v .is) h refl walked, v .rest, v .room)
-
-    pub reaching-end : top ≤ length out
-    reaching-end = omega (arith, v .rest)
-
-    -- the part that is lent
-    pub reaching-part : length (part (top - len) top out) ≡ len
-    reaching-part = length-part (top - len) top out reaching-end ∙ (let z : top - (top - len) ≡ len = omega (arith, reaching-room) in z)
-
-    same-way : (m : ℕ) → m ≡ len → chain m par (getD rows q 0) ≡ way k par (getD rows q 0) (v .is .older)
-    same-way m f = ap (λ (x : ℕ). chain x par (getD rows q 0)) (f ∙ walked .is) ∙ sym (path-chain (suc k) par k (getD rows q 0) (v .is .older))
-
-    -- what `retrace` asks of the part that is lent, and what comes back
-    pub reaching-within : (m : ℕ) → m ≡ len → (x : ℕ) → List·Memᴰ x (chain m par (getD rows q 0)) → x < length par
-    reaching-within m f x t = omega (arith, path-most (suc k) par k (getD rows q 0) (v .is .older) (rw (same-way m f) at t), v .asks .p-long)
-
-    pub reaching-turn : {low m : ℕ} {ys : List ℕ} → low ≡ top - len → m ≡ len → ys ≡ chain m par (getD rows q 0) → Reaching k par rows mark₀ mark1 out₀ (placed low top out ys) low (q + 1)
-    unfolding listing-turn
-    reaching-turn {low = low} {m = m} {ys = ys} a f g =
-        let l : length ys ≡ top - low = rw g (omega (arith, length-chain m par (getD rows q 0), reaching-room)) in
-        let b : drop (top - low) (drop low out) ≡ drop top out = drop-drop (top - low) low out ∙ ap (λ (n : ℕ). drop n out) (let z : low + (top - low) ≡ top = omega (arith, reaching-room) in z) in
-        let i = length-placed low top out ys (omega (arith, reaching-room)) reaching-end l in
-        record {
-          asks = walks-on (v .asks) e;
-          same = e ∙ v .same;
-          long = i ∙ v .long;
-          room = i ∙ v .room;
-          count = v .count + len;
-          rest = omega (arith, i, v .rest, reaching-room);
-          is = listing-turn (v .is) h refl walked refl;
-          back = drop-at (take low out) (ys ++ drop (top - low) (drop low out)) low (length-take-le low out (omega (arith, v .rest, reaching-room))) ∙ ap (λ (t : List ℕ). ys ++ t) (b ∙ v .back) ∙ ap (λ (t : List ℕ). t ++ v .is .older) (g ∙ same-way m f);
-        }
-
-  pub reaching-done : length rows ≤ q → (out ≡ paths par k rows []) × Marks k mark out
-  reaching-done h =
-      let d = listing-done (v .is) h in
-      let z : top ≡ 0 = omega (arith, d .0, v .rest, v .room) in
-      let b = v .back in
-      let o : out ≡ paths par k rows [] = (rw z at b) ∙ listing-all (v .is) h in
-      (o, rw o (d .1))

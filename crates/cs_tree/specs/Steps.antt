@@ -7,7 +7,7 @@ use lib.ListN.{length, getD, take, replicate}
 use Rattle.lists.specs.Keys.{byKey}
 use Rattle.lists.specs.Order.{lists, Once}
 use Rattle.lists.proofs.Scattering.{Scatter, Scattering}
-use Rattle.cs_tree.specs.Tree.{root, tree}
+use Rattle.cs_tree.specs.Tree.{tree}
 use Rattle.cs_tree.specs.Pattern.{path, entries}
 
 -- each parent, or noted ancestor, is above its index; the root's mark is too
@@ -32,11 +32,6 @@ pub record Walks (k : ℕ) (par mark : List ℕ) : Type 0 where
   pub m-long : k < length mark
   pub above : Above par
 
--- m indices by parents, from i on
-unfoldable pub chain : ℕ → List ℕ → ℕ → List ℕ
-chain zero par i = []
-chain (suc m) par i = i ∷ chain m par (getD par i root)
-
 -- the path that a row adds to column k, with the list `older` before it
 abbrev pub way : ℕ → List ℕ → ℕ → List ℕ → List ℕ
 way k par row older = path (suc k) par k row older
@@ -45,6 +40,17 @@ way k par row older = path (suc k) par k row older
 pub record Walked (k : ℕ) (par : List ℕ) (row : ℕ) (older : List ℕ) (len : ℕ) (mark : List ℕ) : Type 0 where
   pub is : len ≡ length (way k par row older)
   pub marks : Marks k mark (way k par row older ++ older)
+
+-- what `trace` asks: a list that the marks stand for, and room for the way that a row adds to it
+pub record Roomy (k : ℕ) (par : List ℕ) (row : ℕ) (mark out : List ℕ) : Type 0 where
+  pub older : List ℕ
+  pub marks : Marks k mark older
+  pub room : length (way k par row older) ≤ length out
+
+-- and what it leaves: the way stands in the front of out
+pub record Traced (k : ℕ) (par : List ℕ) (row : ℕ) (older : List ℕ) (len : ℕ) (mark out : List ℕ) : Type 0 where
+  pub walked : Walked k par row older len mark
+  pub listed : take len out ≡ way k par row older
 
 -- how long each column is
 unfoldable pub lengths : List (List ℕ) → List ℕ

@@ -1,7 +1,4 @@
-use Rattle.cs_tree.proofs.Walking.{reaching-part}
-use mathlib.Core.Path.{refl}
-use Rattle.cs_tree.proofs.Walking.{Reaching, reaching-start, reaching-room, reaching-end, reaching-within, reaching-turn, reaching-done}
-use native.Mathlib.Omega.{arith}
+use Rattle.cs_tree.proofs.Tracing.{Reaching, reaching-start, reaching-end, reaching-roomy, reaching-room, reaching-shift, reaching-turn, reaching-done}
 use lib.ListN.{length}
 use Prim.Native.Nat.{_-_}
 use borrow.Author.Needs.{needs}
@@ -9,8 +6,8 @@ use Rattle.cs_pattern.proofs.reach.reach.Statement.{statement}
 use Rattle.cs_pattern.proofs.reach.reach.Tie as tie
 use Rattle.cs_pattern.proofs.reach.reach.Reads as reads
 use Rattle.cs_pattern.proofs.reach.reach.Lts as lts
-use Rattle.cs_pattern.proofs.reach.retrace.Reads as retrace-reads
-use Rattle.cs_pattern.proofs.reach.walk.Reads as walk-reads
+use Rattle.cs_pattern.proofs.reach.shift.Reads as shift-reads
+use Rattle.cs_pattern.proofs.reach.trace.Reads as trace-reads
 
 abbrev Inv-loop : tie.InvT-loop
 Inv-loop k rows par mark₀ out₀ top₀ q₀ mark out top q = Reaching k par rows mark₀ mark out₀ out top q
@@ -18,75 +15,59 @@ Inv-loop k rows par mark₀ out₀ top₀ q₀ mark out top q = Reaching k par r
 abbrev μ-loop : tie.MeasureT-loop
 μ-loop k rows par mark₀ out₀ top₀ q₀ mark out top q = length rows - q
 
--- src/reach.rt:67:5
+-- src/reach.rt:91:5
 loop-holds : tie.Need-loop-holds Inv-loop μ-loop
 loop-holds c = reaching-start _ _ (c .before .before .before .before .pre .0) (c .before .before .before .before .pre .1) (c .before .before .before .before .pre .2)
 
--- src/reach.rt:69:24
-mul-walk : tie.Need-mul-walk Inv-loop μ-loop
-mul-walk c = search needs
+-- src/reach.rt:92:28
+mul-trace : tie.Need-mul-trace Inv-loop μ-loop
+mul-trace c = search needs
 
--- src/reach.rt:69:24
-shared-slice-read-walk : tie.Need-shared-slice-read-walk Inv-loop μ-loop
-shared-slice-read-walk c = search needs
+-- src/reach.rt:92:28
+shared-slice-read-trace : tie.Need-shared-slice-read-trace Inv-loop μ-loop
+shared-slice-read-trace c = search needs
 
--- src/reach.rt:69:16
-walk-requires : tie.Need-walk-requires Inv-loop μ-loop
-walk-requires c κs = search needs
+-- src/reach.rt:92:48
+sub-trace : tie.Need-sub-trace Inv-loop μ-loop
+sub-trace c = search needs
 
--- src/reach.rt:69:9
-sub-top : tie.Need-sub-top Inv-loop μ-loop
-sub-top c = reaching-room (c .before .before .before .before .before .before .loop .inv) (c .before .before .before .before .before .loop-test .taken) (c .before .before .walk .kept .1 .1 .1 .0) (c .before .before .walk .ensures)
+-- src/reach.rt:92:48
+part-trace-start : tie.Need-part-trace-start Inv-loop μ-loop
+part-trace-start c = search needs
 
--- src/reach.rt:70:17
-mul-retrace : tie.Need-mul-retrace Inv-loop μ-loop
-mul-retrace c = search needs
+-- src/reach.rt:92:48
+part-trace-end : tie.Need-part-trace-end Inv-loop μ-loop
+part-trace-end c = reaching-end (c .before .before .before .loop .inv)
 
--- src/reach.rt:70:17
-shared-slice-read-retrace : tie.Need-shared-slice-read-retrace Inv-loop μ-loop
-shared-slice-read-retrace c = search needs
+-- src/reach.rt:92:13
+trace-requires : tie.Need-trace-requires Inv-loop μ-loop
+trace-requires c κs = (c .before .before .before .before .loop .inv .asks, reaching-roomy (c .before .before .before .before .loop .inv) (c .before .before .before .loop-test .taken))
 
--- src/reach.rt:70:31
-mul-retrace-2 : tie.Need-mul-retrace-2 Inv-loop μ-loop
-mul-retrace-2 c = search needs
+-- src/reach.rt:93:9
+shift-requires : tie.Need-shift-requires Inv-loop μ-loop
+shift-requires c κs = (reaching-room (c .before .before .before .before .before .before .before .before .before .before .loop .inv) (c .before .before .before .before .before .before .before .before .before .loop-test .taken) (c .before .before .before .before .before .trace .kept .1 .1 .1 .0) (c .before .before .before .before .before .trace .kept .1 .1 .1 .1 .0) (c .before .before .before .before .before .trace .ensures), reaching-shift (c .before .before .before .before .before .before .before .before .before .before .loop .inv) (c .before .before .before .before .before .before .before .before .before .loop-test .taken) (c .before .before .before .before .before .trace .kept .1 .1 .1 .0) (c .before .before .before .before .before .trace .kept .1 .1 .1 .1 .0) (c .before .before .before .before .before .trace .ensures))
 
--- src/reach.rt:70:31
-sub-retrace : tie.Need-sub-retrace Inv-loop μ-loop
-sub-retrace c = search needs
-
--- src/reach.rt:70:31
-part-retrace-start : tie.Need-part-retrace-start Inv-loop μ-loop
-part-retrace-start c = search needs
-
--- src/reach.rt:70:31
-part-retrace-end : tie.Need-part-retrace-end Inv-loop μ-loop
-part-retrace-end c = search needs
-
--- src/reach.rt:70:9
-retrace-requires : tie.Need-retrace-requires Inv-loop μ-loop
-retrace-requires c κs = reaching-within (c .before .before .before .before .before .before .before .before .loop .inv) (c .before .before .before .before .before .before .before .loop-test .taken) (c .before .before .before .before .walk .kept .1 .1 .1 .0) (c .before .before .before .before .walk .ensures) _ (reaching-part (c .before .before .before .before .before .before .before .before .loop .inv) (c .before .before .before .before .before .before .before .loop-test .taken) (c .before .before .before .before .walk .kept .1 .1 .1 .0) (c .before .before .before .before .walk .ensures))
-
--- src/reach.rt:71:9
+-- src/reach.rt:94:9
 add-q : tie.Need-add-q Inv-loop μ-loop
 add-q c = search needs
 
--- src/reach.rt:67:5
+-- src/reach.rt:91:5
 loop-less : tie.Need-loop-less Inv-loop μ-loop
 loop-less c = search needs
 
--- src/reach.rt:67:5
+-- src/reach.rt:91:5
 loop-again : tie.Need-loop-again Inv-loop μ-loop
-loop-again c = reaching-turn (c .before .before .before .before .before .before .before .before .before .before .before .loop .inv) (c .before .before .before .before .before .before .before .before .before .before .loop-test .taken) (c .before .before .before .before .before .before .before .walk .kept .1 .1 .1 .0) (c .before .before .before .before .before .before .before .walk .ensures) refl (reaching-part (c .before .before .before .before .before .before .before .before .before .before .before .loop .inv) (c .before .before .before .before .before .before .before .before .before .before .loop-test .taken) (c .before .before .before .before .before .before .before .walk .kept .1 .1 .1 .0) (c .before .before .before .before .before .before .before .walk .ensures)) (c .before .before .retrace .ensures)
+loop-again c = reaching-turn (c .before .before .before .before .before .before .before .before .before .before .before .before .before .loop .inv) (c .before .before .before .before .before .before .before .before .before .before .before .before .loop-test .taken) (c .before .before .before .before .before .before .before .before .trace .kept .1 .1 .1 .0) (c .before .before .before .before .before .before .before .before .trace .kept .1 .1 .1 .1 .0) (c .before .before .before .before .before .before .before .before .trace .ensures) (c .before .before .shift .kept .1 .1 .0) (c .before .before .shift .ensures)
 
--- src/reach.rt:61:1
+-- src/reach.rt:85:1
 same-length : tie.Need-same-length Inv-loop μ-loop
-same-length c = search needs
+same-length c = c .before .loop .inv .same
 
--- src/reach.rt:61:1
+-- src/reach.rt:85:1
 same-length-2 : tie.Need-same-length-2 Inv-loop μ-loop
-same-length-2 c = search needs
+same-length-2 c = c .before .loop .inv .long
 
--- src/reach.rt:61:1
+-- src/reach.rt:85:1
 returns : tie.Need-returns Inv-loop μ-loop
 returns c = reaching-done (c .before .loop .inv) (c .loop-test .left)
 
@@ -97,17 +78,13 @@ reach-spec =
     Inv-loop
     μ-loop
     loop-holds
-    mul-walk
-    shared-slice-read-walk
-    walk-requires
-    sub-top
-    mul-retrace
-    shared-slice-read-retrace
-    mul-retrace-2
-    sub-retrace
-    part-retrace-start
-    part-retrace-end
-    retrace-requires
+    mul-trace
+    shared-slice-read-trace
+    sub-trace
+    part-trace-start
+    part-trace-end
+    trace-requires
+    shift-requires
     add-q
     loop-less
     loop-again

@@ -1,0 +1,240 @@
+-- The loops that write a column of U: the walk from one row, which lists as it goes; the way moved up to where it belongs; and row
+-- by row. Assumes nothing.
+use mathlib.Core.Path.{_≡_, refl, sym, ap, _∙_}
+use mathlib.Core.Bool.{false}
+use mathlib.Core.List.{List, [], _∷_, _++_, append-nil}
+use Prim.Native.Nat.{ℕ, zero, suc, _+_, _-_, _≤_, _<_}
+use native.Mathlib.Numerals.{add-one}
+use native.Mathlib.Omega.{arith}
+use lib.ListN.{length, getD, set, take, drop, length-set, length-append, take-append-drop}
+use lib.Seq.{getD-set-same, getD-set-other, drop-set-lt, drop-length, drop-at, length-take-le, take-append-le}
+use borrow.Author.Tests.{ne-eqb}
+use Rattle.lists.specs.Order.{lists}
+use Rattle.lists.specs.Parts.{part, placed}
+use Rattle.lists.proofs.Laying.{part-front}
+use Rattle.lists.proofs.Members.{getD-any}
+use Rattle.lists.proofs.Parts.{left-at, written-more, length-part, length-placed}
+use Rattle.cs_tree.specs.Tree.{root}
+use Rattle.cs_tree.specs.Pattern.{path, paths}
+use Rattle.cs_tree.specs.Steps.{Marks, Walks, Walked, way, Roomy, Traced}
+use Rattle.cs_tree.proofs.Steps.{path-new}
+use Rattle.cs_tree.proofs.Walking.{Walk, walk-start, walk-up, walk-next, walk-seen, walk-over, not-done, walks-on, Listing, listing-start, listing-room, listing-turn, listing-done, listing-all}
+
+nothing : (l : List ℕ) → length l ≡ 0 → l ≡ []
+nothing [] e = refl
+nothing (x ∷ l) e = absurd (omega arith)
+
+-- ---- `trace`: len of the way stand in the front of out, and the rest of it starts at c
+pub record Onward (k : ℕ) (par : List ℕ) (row : ℕ) (older out : List ℕ) (c len : ℕ) : Type 0 where
+  pub fuel : ℕ
+  pub goes : way k par row older ≡ take len out ++ path fuel par k c older
+  pub enough : k < c + fuel
+
+pub record Tracing (k : ℕ) (par : List ℕ) (row : ℕ) (mark₀ mark out₀ out : List ℕ) (c len : ℕ) : Type 0 where
+  pub walk : Walk k par row mark₀ mark c len
+  pub long : length out ≡ length out₀
+  pub inside : len ≤ length out
+  pub given : Roomy k par row mark₀ out₀
+  pub tells : (s : Roomy k par row mark₀ out₀) → Onward k par row (s .older) out c len
+
+pub tracing-start : {k : ℕ} {par : List ℕ} {row : ℕ} {mark out : List ℕ} → Walks k par mark → Roomy k par row mark out → Tracing k par row mark mark out out row 0
+tracing-start {k = k} v s =
+    record { walk = walk-start v refl; long = refl; inside = omega arith; given = s; tells = λ t. record { fuel = suc k; goes = refl; enough = omega arith } }
+
+module _ {k : ℕ} {par : List ℕ} {row : ℕ} {mark₀ mark out₀ out : List ℕ} {c len : ℕ} (v : Tracing k par row mark₀ mark out₀ out c len) where
+  told : (s : Roomy k par row mark₀ out₀) → Walked k par row (s .older) len mark → Traced k par row (s .older) len mark out
+  told s w =
+      let t = v .tells s in
+      let rest = path (t .fuel) par k c (s .older) in
+      let z : length rest ≡ 0 = omega (arith, ap length (t .goes), length-append (take len out) rest, length-take-le len out (v .inside), w .is) in
+      record { walked = w; listed = sym (t .goes ∙ ap (λ (l : List ℕ). take len out ++ l) (nothing rest z) ∙ append-nil (take len out)) }
+
+  module _ {i : ℕ} (h : c ≤ k) (f : i ≡ c) where
+    pub trace-in-par : i < length par
+    trace-in-par = omega (arith, v .walk .asks .p-long)
+
+    pub trace-in-mark : i < length mark
+    trace-in-mark = omega (arith, v .walk .asks .m-long)
+
+    pub trace-up : c < getD par i 0
+    trace-up = rw f (walk-up (v .walk) h)
+
+    module _ (e : getD mark i 0 ≡ k + 1 → ⊥) where
+      new : (s : Roomy k par row mark₀ out₀) → lists c (s .older) ≡ false
+      new s =
+          let w = v .walk .tells (s .older) (s .marks) in
+          let z : getD mark c 0 ≡ k + 1 → ⊥ = rw f at e in
+          sym (not-done w) ∙ sym (w .marks .at c (omega (arith, v .walk .asks .m-long))) ∙ ne-eqb (getD mark c 0) (k + 1) z
+
+      up : getD par c root ≡ getD par i 0
+      up = rw f (getD-any par c root 0 (omega (arith, v .walk .asks .p-long)))
+
+      on : (s : Roomy k par row mark₀ out₀) (g : ℕ) → path (suc g) par k c (s .older) ≡ c ∷ path g par k (getD par i 0) (s .older)
+      on s g = path-new g par k c (s .older) h (new s) ∙ ap (λ (x : ℕ). c ∷ path g par k x (s .older)) up
+
+      -- there is room for one more
+      pub trace-room : len < length out
+      trace-room = go (v .given) (v .tells (v .given) .fuel) (v .tells (v .given) .goes) (v .tells (v .given) .enough)
+        where
+          go : (s : Roomy k par row mark₀ out₀) (g : ℕ) → way k par row (s .older) ≡ take len out ++ path g par k c (s .older) → k < c + g → len < length out
+          go s zero p q = absurd (omega arith)
+          go s (suc g) p q =
+              omega
+              (arith, ap length (p ∙ ap (λ (t : List ℕ). take len out ++ t) (on s g)), length-append (take len out) (c ∷ path g par k (getD par i 0) (s .older)), length-take-le len out (v .inside), s .room, v .long)
+
+      pub tracing-turn : Tracing k par row mark₀ (set mark i (k + 1)) out₀ (set out len c) (getD par i 0) (len + 1)
+      tracing-turn =
+          record {
+            walk = rw (← f) at (walk-next (v .walk) h (rw f at e) (ap (λ (x : ℕ). getD par x 0) f));
+            long = length-set out len c ∙ v .long;
+            inside = omega (arith, length-set out len c, trace-room);
+            given = v .given;
+            tells = λ s. go s (v .tells s .fuel) (v .tells s .goes) (v .tells s .enough);
+          }
+        where
+          go : (s : Roomy k par row mark₀ out₀) (g : ℕ) → way k par row (s .older) ≡ take len out ++ path g par k c (s .older) → k < c + g → Onward k par row (s .older) (set out len c) (getD par i 0) (len + 1)
+          go s zero p q = absurd (omega arith)
+          go s (suc g) p q =
+              record {
+                fuel = g;
+                goes = p ∙ ap (λ (t : List ℕ). take len out ++ t) (on s g) ∙ sym (written-more out len c (path g par k (getD par i 0) (s .older)) trace-room);
+                enough = omega (arith, trace-up);
+              }
+
+    pub trace-seen : getD mark i 0 ≡ k + 1 → (s : Roomy k par row mark₀ out₀) → Traced k par row (s .older) len mark out
+    trace-seen e s = told s (walk-seen (v .walk) h (rw f at e) .1 (s .older) (s .marks))
+
+  pub trace-over : k < c → (s : Roomy k par row mark₀ out₀) → Traced k par row (s .older) len mark out
+  trace-over h s = told s (walk-over (v .walk) h .1 (s .older) (s .marks))
+
+-- ---- `shift`: from t on the elements are moved
+pub record Shifting (len top low : ℕ) (out₀ out : List ℕ) (t : ℕ) : Type 0 where
+  pub long : length out ≡ length out₀
+  pub ends : low + len ≡ top
+  pub inside : top ≤ length out₀
+  pub within : t ≤ len
+  pub front : (q : ℕ) → q < t → getD out q 0 ≡ getD out₀ q 0
+  pub back : drop (low + t) out ≡ part t len out₀ ++ drop top out₀
+
+pub shifting-start : {len top low : ℕ} {out : List ℕ} → low ≡ top - len → len ≤ top → top ≤ length out → Shifting len top low out out len
+shifting-start {len = len} {top = top} {low = low} e h g =
+    let z : len - len ≡ 0 = omega arith in
+    let n : low + len ≡ top = omega arith in
+    record { long = refl; ends = n; inside = g; within = omega arith; front = λ q l. refl; back = rw (z, n) }
+
+module _ {len top low : ℕ} {out₀ out : List ℕ} {t : ℕ} (v : Shifting len top low out₀ out t) where
+  module _ (h : 0 < t) where
+    pub shift-from : t - 1 < length out
+    shift-from = omega (arith, v .long, v .inside, v .within, v .ends)
+
+    pub shift-to : low + (t - 1) < length out
+    shift-to = omega (arith, v .long, v .inside, v .within, v .ends)
+
+    pub shifting-turn : Shifting len top low out₀ (set out (low + (t - 1)) (getD out (t - 1) 0)) (t - 1)
+    shifting-turn =
+        let j = low + (t - 1) in
+        let x = getD out (t - 1) 0 in
+        let f : x ≡ getD out₀ (t - 1) 0 = v .front (t - 1) (omega arith) in
+        let n : j + 1 ≡ low + t = omega arith in
+        let m : t - 1 + 1 ≡ t = omega arith in
+        let a : drop j (set out j x) ≡ x ∷ drop (low + t) out =
+        left-at (set out j x) j 0 (omega (arith, length-set out j x, shift-to))
+        ∙ (rw (getD-set-same out j x 0 shift-to, n, drop-set-lt (low + t) out j x (omega arith))) in
+        let b : part (t - 1) len out₀ ≡ getD out₀ (t - 1) 0 ∷ part t len out₀ =
+        let k : len - (t - 1) ≡ suc (len - t) = omega (arith, v .within) in
+        rw (k, left-at out₀ (t - 1) 0 (omega (arith, shift-from, v .long)), m) in
+        record {
+          long = length-set out j x ∙ v .long;
+          ends = v .ends;
+          inside = v .inside;
+          within = omega (arith, v .within);
+          front = λ q l. getD-set-other out j q x 0 (λ e. omega arith) ∙ v .front q (omega arith);
+          back = a ∙ ap (λ (l : List ℕ). x ∷ l) (v .back) ∙ (rw (f, b));
+        }
+
+  pub shifting-done : t ≡ 0 → drop low out ≡ take len out₀ ++ drop top out₀
+  shifting-done e =
+      let z : low + 0 ≡ low = omega arith in
+      (rw (e, z, part-front len out₀) at (v .back))
+
+-- where they end there already nothing moves
+pub shift-none : {len top low : ℕ} (out : List ℕ) → low ≡ top - len → len ≤ top → low ≡ 0 → (low + len ≡ top) × (drop low out ≡ take len out ++ drop top out)
+shift-none {len = len} {top = top} {low = low} out e h z =
+    let n : len ≡ top = omega arith in
+    (omega arith, rw (z, n) (sym (take-append-drop top out)))
+
+-- ---- `reach`, row by row
+pub record Reaching (k : ℕ) (par rows mark₀ mark out₀ out : List ℕ) (top q : ℕ) : Type 0 where
+  pub asks : Walks k par mark
+  pub same : length mark ≡ length mark₀
+  pub long : length out ≡ length out₀
+  pub room : length out ≡ length (paths par k rows [])
+  pub count : ℕ
+  pub rest : top + count ≡ length out
+  pub is : Listing k par rows mark count q
+  pub back : drop top out ≡ is .older
+
+pub reaching-start : {k : ℕ} {par : List ℕ} (rows : List ℕ) {mark : List ℕ} (out : List ℕ) → Walks k par mark → Marks k mark [] → length out ≡ length (paths par k rows []) → Reaching k par rows mark mark out out (length out) 0
+unfolding listing-start
+reaching-start rows out v m e =
+    record { asks = v; same = refl; long = refl; room = e; count = 0; rest = omega arith; is = listing-start rows m; back = drop-length out }
+
+module _ {k : ℕ} {par rows mark₀ mark out₀ out : List ℕ} {top q : ℕ} (v : Reaching k par rows mark₀ mark out₀ out top q) where
+  pub reaching-end : top ≤ length out
+  reaching-end = omega (arith, v .rest)
+
+  module _ (h : q < length rows) where
+    -- what `trace` asks of the free front
+    pub reaching-roomy : Roomy k par (getD rows q 0) mark (part 0 top out)
+    reaching-roomy =
+        record {
+          older = v .is .older;
+          marks = v .is .marks;
+          room = omega (arith, length-part 0 top out reaching-end, listing-room (v .is) h refl, v .rest, v .room);
+        }
+
+    module _ {len : ℕ} {mark1 ys : List ℕ} (e : length mark1 ≡ length mark) (g : length ys ≡ length (part 0 top out)) (w : (s : Roomy k par (getD rows q 0) mark (part 0 top out)) → Traced k par (getD rows q 0) (s .older) len mark1 ys) where
+      traced : Traced k par (getD rows q 0) (v .is .older) len mark1 ys
+      unfolding reaching-roomy
+      traced = w reaching-roomy
+
+      ys-long : length ys ≡ top
+      ys-long = omega (arith, g, length-part 0 top out reaching-end)
+
+      filled-long : length (placed 0 top out ys) ≡ length out
+      filled-long = length-placed 0 top out ys (omega arith) reaching-end (omega (arith, ys-long))
+
+      pub reaching-room : len ≤ top
+      reaching-room = omega (arith, traced .walked .is, listing-room (v .is) h refl, v .rest, v .room)
+
+      pub reaching-shift : top ≤ length (placed 0 top out ys)
+      reaching-shift = omega (arith, filled-long, reaching-end)
+
+      behind : drop top (placed 0 top out ys) ≡ drop top out
+      behind = let z : top - 0 ≡ top = omega arith in rw z (drop-at ys (drop top out) top ys-long)
+
+      ahead : take len (placed 0 top out ys) ≡ take len ys
+      ahead = take-append-le len ys (drop (top - 0) (drop 0 out)) (omega (arith, ys-long, reaching-room))
+
+      pub reaching-turn : {low : ℕ} {out2 : List ℕ} → length out2 ≡ length (placed 0 top out ys) → (low + len ≡ top) × (drop low out2 ≡ take len (placed 0 top out ys) ++ drop top (placed 0 top out ys))
+          → Reaching k par rows mark₀ mark1 out₀ out2 low (q + 1)
+      unfolding listing-turn
+      reaching-turn a b =
+          record {
+            asks = walks-on (v .asks) e;
+            same = e ∙ v .same;
+            long = a ∙ filled-long ∙ v .long;
+            room = a ∙ filled-long ∙ v .room;
+            count = v .count + len;
+            rest = omega (arith, a, filled-long, v .rest, b .0);
+            is = listing-turn (v .is) h refl (traced .walked) refl;
+            back = b .1 ∙ (rw (ahead, behind, traced .listed, v .back));
+          }
+
+  pub reaching-done : length rows ≤ q → (out ≡ paths par k rows []) × Marks k mark out
+  reaching-done h =
+      let d = listing-done (v .is) h in
+      let z : top ≡ 0 = omega (arith, d .0, v .rest, v .room) in
+      let b = v .back in
+      let o : out ≡ paths par k rows [] = (rw z at b) ∙ listing-all (v .is) h in
+      (o, rw o (d .1))
