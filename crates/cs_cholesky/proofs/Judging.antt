@@ -8,14 +8,14 @@ use lib.Dec.{eqb}
 use lib.ListN.{length}
 use borrow.Author.Tests.{eq-eqb, ne-eqb, lt-ltb}
 use Rattle.lists.specs.Calls.{lowest, both, disagree, lower, Scratch, narrow, worked}
-use Rattle.lists.proofs.Calls.{Early, From, lowest-both, lower-none, first, below-7}
-use Rattle.cs_matrix.specs.Matrix.{Pattern, Matrix, tooLarge, judgedPattern, judged, needed}
-use Rattle.cs_matrix.proofs.Refusing.{from-judged, from-disagree}
+use Rattle.lists.proofs.Calls.{lowest-both, lower-none, first, below-7}
+use Rattle.cs_matrix.specs.Matrix.{Pattern, Matrix, tooLarge, judgedPattern, judged, judgedSquare, judgedSquareMatrix, needed}
+use Rattle.cs_matrix.proofs.Refusing.{from-disagree}
+use Rattle.cs_matrix.proofs.Squaring.{from-square, early-matrix}
 use Rattle.cs_tree.specs.Pattern.{Analysis, analysed}
-use Rattle.cs_matrix.specs.Matrix.{judgedSquare as judgedPatternSquare}
 use Rattle.cs_pattern.specs.Columns.{columns}
 use Rattle.cs_pattern.specs.Compare.{same, tight, number}
-use Rattle.cs_cholesky.specs.Factor.{judgedSquare, judgedFactor}
+use Rattle.cs_cholesky.specs.Factor.{judgedFactor}
 
 or-swap : (a b c : Bool) → (a || b || c) ≡ (a || c || b)
 or-swap true b c = refl
@@ -28,34 +28,26 @@ or-drop : (a b : Bool) → (a || false || b) ≡ (a || b)
 or-drop true b = refl
 or-drop false b = refl
 
-pub early-square : (a : Matrix) → Early (judgedSquare a)
-unfolding judgedSquare judged judgedPattern both
-early-square a = (omega arith, omega arith, (omega arith, omega arith, (omega arith, omega arith, (omega arith, omega arith, (omega arith, omega arith, omega arith)))))
-
-from-square : (a : Pattern) → From 1 (judgedPatternSquare a)
-unfolding judgedPatternSquare judgedPattern both
-from-square a = (refl, (refl, (refl, (refl, (refl, omega arith)))))
-
 module _ (a : Matrix) (given : Analysis) (room : ℕ) (old : Scratch) where
   abbrev odd : Bool
   odd = not (eqb (length (a .pattern .i)) (length (a .v)))
 
-  swapped : both (judgedPatternSquare (a .pattern)) (disagree odd) ≡ judgedSquare a
-  unfolding judgedPatternSquare judgedSquare judged judgedPattern both
+  swapped : both (judgedSquare (a .pattern)) (disagree odd) ≡ judgedSquareMatrix a
+  unfolding judgedSquare judgedSquareMatrix judged judgedPattern both
   swapped = rw (or-swap (not (eqb (length (a .pattern .p)) (a .pattern .ncols + 1))) (not (eqb (a .pattern .nrows) (a .pattern .ncols))) odd)
 
   -- values that are not as many as the rows
-  pub judge-2 : (length (a .v) ≡ length (a .pattern .i) → ⊥) → {r s : ℕ} → r ≡ lowest (judgedPatternSquare (a .pattern)) → s ≡ lower r 2 → (s ≡ lowest (judgedFactor a given room old)) × (old ≡ worked s (needed (a .pattern)) old)
+  pub judge-2 : (length (a .v) ≡ length (a .pattern .i) → ⊥) → {r s : ℕ} → r ≡ lowest (judgedSquare (a .pattern)) → s ≡ lower r 2 → (s ≡ lowest (judgedFactor a given room old)) × (old ≡ worked s (needed (a .pattern)) old)
   unfolding judgedFactor worked
   judge-2 h {r} {s} e f =
       let t : odd ≡ true = ap not (ne-eqb (length (a .pattern .i)) (length (a .v)) (λ q. h (sym q))) in
       let l : lower r (lowest (disagree odd)) ≡ lower r 2 = rw t in
-      let u : s ≡ lowest (judgedSquare a) =
-      f ∙ sym l ∙ ap (λ (k : ℕ). lower k (lowest (disagree odd))) e ∙ lowest-both 1 (judgedPatternSquare (a .pattern)) (disagree odd) (omega arith) (from-square (a .pattern)) (from-disagree odd) ∙ ap lowest swapped in
+      let u : s ≡ lowest (judgedSquareMatrix a) =
+      f ∙ sym l ∙ ap (λ (k : ℕ). lower k (lowest (disagree odd))) e ∙ lowest-both 1 (judgedSquare (a .pattern)) (disagree odd) (omega arith) (from-square (a .pattern)) (from-disagree odd) ∙ ap lowest swapped in
       let z : s ≡ 0 → ⊥ = λ q. omega (arith, lower-none r 2 (sym f ∙ q) .1) in
-      let m : s < 7 = omega (arith, below-7 (judgedSquare a) (early-square a)) in
-      (first (judgedSquare a) _ u z, rw (lt-ltb 0 s (omega (arith, z)), lt-ltb s 7 m))
+      let m : s < 7 = omega (arith, below-7 (judgedSquareMatrix a) (early-matrix a)) in
+      (first (judgedSquareMatrix a) _ u z, rw (lt-ltb 0 s (omega (arith, z)), lt-ltb s 7 m))
 
   pub judge-rest : length (a .v) ≡ length (a .pattern .i) → {r : ℕ} → r ≡ number (a .pattern) room given old → r ≡ lowest (judgedFactor a given room old)
-  unfolding number judgedFactor judgedPatternSquare judgedSquare judged judgedPattern both
+  unfolding number judgedFactor judgedSquare judgedSquareMatrix judged judgedPattern both
   judge-rest h e = rw (eq-eqb (length (a .pattern .i)) (length (a .v)) (sym h), or-drop (not (eqb (length (a .pattern .p)) (a .pattern .ncols + 1))) (not (eqb (a .pattern .nrows) (a .pattern .ncols))), or-drop (tooLarge (a .pattern)) false) e

@@ -14,7 +14,7 @@ use Rattle.lists.proofs.Bools.{and-true, or-false, not-holds, passed-over}
 use Rattle.lists.proofs.Calls.{Early, lowest-both, lower-none, first, then, Wide, not-narrow}
 use Rattle.lists.proofs.Passing.{lowest-none}
 use Rattle.lists.proofs.Parts.{part-take}
-use Rattle.cs_matrix.specs.Matrix.{Pattern, pattern, Matrix, matrix, judged, needed, ValidPattern, Valid}
+use Rattle.cs_matrix.specs.Matrix.{Pattern, pattern, Matrix, matrix, judged, needed, ValidPattern, Valid, judgedSquareMatrix}
 use Rattle.cs_matrix.proofs.Refusing.{from-judged, from-disagree}
 use Rattle.cs_matrix.proofs.Validity.{valid}
 use Rattle.cs_tree.specs.Pattern.{Analysis, analysis, analysed, upper, lower, starts, entries}
@@ -30,9 +30,9 @@ use Rattle.cs_pattern.specs.Compare.{startsWith, same, tight}
 use Rattle.cs_pattern.proofs.Columns.{columns-fit, columns-long}
 use Rattle.cs_pattern.proofs.Matching.{begins, starts-long, starts-at}
 use Rattle.cs_cholesky.specs.declared.Factored.{Factored}
-use Rattle.cs_cholesky.specs.Factor.{Outcome, factored, judgedSquare, judgedFactor, answer}
+use Rattle.cs_cholesky.specs.Factor.{Outcome, factored, judgedFactor, answer}
 use Rattle.cs_cholesky.specs.Served.{Laid, Served}
-use Rattle.cs_cholesky.proofs.Judging.{early-square}
+use Rattle.cs_matrix.proofs.Squaring.{early-matrix, valid-matrix}
 
 -- ---- columns that a lent slice starts with
 -- a slice that starts with a list is that list, laid over the slice itself
@@ -93,17 +93,10 @@ module _ (nrows n : ℕ) (p i : List ℕ) (v : List Float) (tr up ui lp li : Lis
   behind : List (ℕ × Bool)
   behind = (6, narrow (needed (a .pattern)) old) ∷ (7, tight room F) ∷ (8, not (same F (analysis tr up ui lp li))) ∷ []
 
-  valid-square : lowest (judgedSquare a) ≡ 0 → Valid a × (nrows ≡ n)
-  unfolding judgedSquare
-  valid-square h =
-      let b = not (eqb nrows n) in
-      let t = lower-none (lowest (judged a)) (lowest (disagree b)) (lowest-both 1 (judged a) (disagree b) (omega arith) (from-judged a) (from-disagree b) ∙ h) in
-      (valid a (t .0), eqb-true nrows n (not-holds _ (passed-over b 1 _ (t .1) .0)))
-
   module _ {r : ℕ} (e : r ≡ lowest (judgedFactor a (analysis tr up ui lp li) room old)) (h : r ≡ 0) where
-    both-none : (lowest (judgedSquare a) ≡ 0) × (lowest behind ≡ 0)
+    both-none : (lowest (judgedSquareMatrix a) ≡ 0) × (lowest behind ≡ 0)
     unfolding judgedFactor behind
-    both-none = lowest-none (judgedSquare a) behind (early-square a) (sym e ∙ h)
+    both-none = lowest-none (judgedSquareMatrix a) behind (early-matrix a) (sym e ∙ h)
 
     late-none : (narrow (needed (a .pattern)) old ≡ false) × (tight room F ≡ false) × (same F (analysis tr up ui lp li) ≡ true)
     unfolding behind
@@ -113,10 +106,10 @@ module _ (nrows n : ℕ) (p i : List ℕ) (v : List Float) (tr up ui lp li : Lis
         (x .0, y .0, not-holds _ (passed-over _ 7 _ (y .1) .0))
 
     is-square : nrows ≡ n
-    is-square = valid-square (both-none .0) .1
+    is-square = valid-matrix a (both-none .0) .1
 
     is-valid : Valid (matrix n n p i v)
-    is-valid = rw is-square at (valid-square (both-none .0) .0)
+    is-valid = rw is-square at (valid-matrix a (both-none .0) .0)
 
     need-is : needed (a .pattern) ≡ n + 1
     unfolding needed

@@ -12,43 +12,18 @@ use lib.ListN.{length}
 use borrow.Author.Tests.{eq-eqb, ne-eqb}
 use Rattle.lists.specs.Calls.{lowest, none, Scratch, narrow, wiped, Lent, lent, outputs, worked, leaves}
 use Rattle.lists.proofs.Bools.{eq-or-ne}
-use Rattle.lists.proofs.Calls.{Early, below-7, first, then, left-alone, late, done, blanked}
-use Rattle.cs_matrix.specs.Matrix.{Matrix, needed}
+use Rattle.lists.proofs.Calls.{Under, under-both, lowest-under, Early, below-7, first, then, then-under, left-alone, late, done, blanked}
+use Rattle.cs_matrix.specs.Matrix.{Matrix, needed, judgedSquareMatrix}
 use Rattle.cs_tree.specs.Pattern.{Analysis, analysed}
 use Rattle.cs_pattern.specs.Columns.{columns}
 use Rattle.cs_pattern.specs.Compare.{same, tight}
 use Rattle.cs_cholesky.specs.declared.Factored.{Factored}
-use Rattle.cs_cholesky.specs.Factor.{Outcome, factored, judgedSquare, judgedFactor, answer, written}
-use Rattle.cs_cholesky.proofs.Judging.{early-square}
+use Rattle.cs_cholesky.specs.Factor.{Outcome, factored, judgedFactor, answer, written}
+use Rattle.cs_matrix.proofs.Squaring.{early-matrix}
 
--- the numbers are above 0 and below 9
-abbrev Low : List (ℕ × Bool) → Type 0
-Low [] = 0 ≤ 0
-Low (c ∷ cs) = (0 < c .0) × (c .0 < 9) × Low cs
-
-low-early : (cs ds : List (ℕ × Bool)) → Early cs → Low ds → Low (cs ++ ds)
-low-early [] ds g h = h
-low-early (c ∷ cs) ds g h = (g .0, omega (arith, g .1), low-early cs ds (g .2) h)
-
-below-9 : (cs : List (ℕ × Bool)) → Low cs → lowest cs < 9
-below-9 [] g = omega arith
-below-9 (c ∷ cs) g = go (c .1) (below-9 cs (g .2))
-  where
-    go : (b : Bool) → lowest cs < 9 → cond b (c .0) (lowest cs) < 9
-    go true l = g .1
-    go false l = l
-
-passes : (cs ds : List (ℕ × Bool)) → Low cs → lowest cs ≡ 0 → lowest ds ≡ lowest (cs ++ ds)
-passes [] ds g e = refl
-passes (c ∷ cs) ds g e = go (c .1) e (passes cs ds (g .2))
-  where
-    go : (b : Bool) → cond b (c .0) (lowest cs) ≡ 0 → (lowest cs ≡ 0 → lowest ds ≡ lowest (cs ++ ds)) → lowest ds ≡ cond b (c .0) (lowest (cs ++ ds))
-    go true e f = absurd (omega (arith, g .0))
-    go false e f = f e
-
-low-factor : (a : Matrix) (given : Analysis) (room : ℕ) (work : Scratch) → Low (judgedFactor a given room work)
+low-factor : (a : Matrix) (given : Analysis) (room : ℕ) (work : Scratch) → Under 9 (judgedFactor a given room work)
 unfolding judgedFactor
-low-factor a given room work = low-early (judgedSquare a) _ (early-square a) (omega arith, omega arith, (omega arith, omega arith, (omega arith, omega arith, omega arith)))
+low-factor a given room work = under-both 7 9 (judgedSquareMatrix a) _ (omega arith) (early-matrix a) (omega arith, omega arith, (omega arith, omega arith, (omega arith, omega arith, omega arith)))
 
 -- out and work are lent, t is as many as U has entries, and f is what the factoring comes to
 module _ (a : Matrix) (given : Analysis) (out : List Float) (work : Scratch) (rest : List (ℕ × Bool)) (t : ℕ) (f : Outcome) where
@@ -63,14 +38,14 @@ module _ (a : Matrix) (given : Analysis) (out : List Float) (work : Scratch) (re
     pub at-judge : (r ≡ 0 → ⊥) → {work1 : Scratch} → work1 ≡ worked r (needed (a .pattern)) work → Answer (factored r 0 none) out work1
     unfolding answer leaves
     at-judge h g =
-        let l : r < 9 = omega (arith, below-9 cs (low-factor a given (length out) work)) in (
+        let l : r < 9 = omega (arith, lowest-under 9 cs (omega arith) (low-factor a given (length out) work)) in (
           rw (← first cs rest e h, ne-eqb r 11 (λ q. omega arith)),
           (let o = left-alone r (written t f out) out h (λ q. omega arith) in λ k. record { out = o k; work = g k }),
         )
 
     module _ (h : r ≡ 0) where
       after : lowest rest ≡ lowest (cs ++ rest)
-      after = passes cs rest (low-factor a given (length out) work) (sym e ∙ h)
+      after = then-under 9 cs rest (low-factor a given (length out) work) refl (sym e ∙ h)
 
       -- by 9 or 10
       pub at-refusal : {s : ℕ} → s ≡ lowest rest → 7 ≤ s → s < 11 → {work1 : Scratch} → work1 ≡ wiped (needed (a .pattern)) work → Answer (factored s 0 none) out work1

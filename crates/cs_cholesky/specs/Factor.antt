@@ -6,8 +6,8 @@ use Prim.Native.Nat.{ℕ, zero, suc, _+_}
 use lib.Dec.{eqb}
 use lib.Ieee.{Float, lt}
 use lib.ListN.{length, replicate}
-use Rattle.lists.specs.Calls.{lowest, both, disagree, onto, none, Scratch, narrow, Lent}
-use Rattle.cs_matrix.specs.Matrix.{Matrix, judged, needed}
+use Rattle.lists.specs.Calls.{lowest, onto, none, Scratch, narrow, Lent}
+use Rattle.cs_matrix.specs.Matrix.{Matrix, judgedSquareMatrix, needed}
 use Rattle.cs_tree.specs.Pattern.{Analysis, analysed}
 use Rattle.cs_pattern.specs.Columns.{columns}
 use Rattle.cs_pattern.specs.Compare.{same, tight}
@@ -37,15 +37,11 @@ factor step (suc d) k done =
     (record { answer = factored 11 k (s .pivot); columns = [] })
 
 -- ---- what the call answers and writes
--- 1 to 5: those of the matrix, and 2 where it is not square
-unfoldable pub judgedSquare : Matrix → List (ℕ × Bool)
-judgedSquare a = both (judged a) (disagree (not (eqb (a .pattern .nrows) (a .pattern .ncols))))
-
 -- 1 to 8, where L's values have the length room
 unfoldable pub judgedFactor : Matrix → Analysis → ℕ → Scratch → List (ℕ × Bool)
 judgedFactor a given room work =
     let f = analysed (columns (a .pattern)) in
-    judgedSquare a ++ (6, narrow (needed (a .pattern)) work) ∷ (7, tight room f) ∷ (8, not (same f given)) ∷ []
+    judgedSquareMatrix a ++ (6, narrow (needed (a .pattern)) work) ∷ (7, tight room f) ∷ (8, not (same f given)) ∷ []
 
 -- the answer with the number r: column and pivot only with 11
 unfoldable pub answer : ℕ → Outcome → Factored

@@ -18,7 +18,7 @@ use Rattle.lists.proofs.Bools.{le-or-lt}
 use Rattle.lists.proofs.Chosen.{chosen-within, chosen-member, chosen-rising}
 use Rattle.lists.proofs.Laying.{part-at}
 use Rattle.lists.proofs.Ordering.{rising-rises}
-use Rattle.lists.proofs.Skipping.{getD-member}
+use Rattle.lists.proofs.Spots.{member-at}
 use Rattle.lists.proofs.Tables.{length-table, getD-table}
 use Rattle.cs_matrix.specs.Matrix.{column, Valid}
 use Rattle.cs_columns.specs.Columns.{joined, withColumns, withEntries}
@@ -148,7 +148,7 @@ module _ (nrows ncols : ℕ) (f : ℕ → ℕ → Bool) (g : ℕ → ℕ → Flo
       record {
         alike = λ j h. sym (length-map (chosen nrows (f j)) (g j));
         rise = λ j h. rising-rises (chosen-rising (f j) nrows);
-        below = λ j h k l. chosen-member (f j) nrows (getD (chosen nrows (f j)) k 0) (getD-member (chosen nrows (f j)) k l) .below;
+        below = λ j h k l. chosen-member (f j) nrows (getD (chosen nrows (f j)) k 0) (member-at (chosen nrows (f j)) k l) .below;
       }
 
   pub entries-valid : nrows ≤ 65535 → ncols ≤ 65535 → length (joined rowsOf ncols) ≤ 4194304 → Valid (withEntries nrows ncols f g)

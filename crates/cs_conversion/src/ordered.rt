@@ -2,14 +2,13 @@
 // as the matrix has them, and only the pointers have to be found.
 ghost use mathlib.Core.Path.{_≡_};
 ghost use mathlib.Core.Bool.{true};
-ghost use Prim.Native.Nat.{_≤_};
-ghost use lib.ListN.{length};
-ghost use Rattle.lists.specs.Calls.{onto};
 ghost use Rattle.cs_matrix.specs.Matrix.{stored, written};
 ghost use Rattle.cs_conversion.specs.Assembly.{triplets};
 ghost use Rattle.cs_conversion.specs.Sorting.{Sound, Room};
 ghost use Rattle.cs_conversion.specs.InOrder.{Coded, Ordered, asGiven};
 use crate::pointers::pointers;
+use lists::sides::copy;
+use lists::sides::copy_values;
 
 // True only where the triplets come in order. Column and row are compared as one number; there is no early exit, so that
 // several are compared at a time.
@@ -27,30 +26,6 @@ pub fn in_order(rows: &[u32], cols: &[u32]) -> bool
         k += 1;
     }
     bad == 0
-}
-
-// The rows into the front of i.
-fn copy(rows: &[u32], i: &mut [u32])
-    requires { ⌜ length (now rows) ≤ length (now i) ⌝ }
-    ensures { λ _. ⌜ now (i .exit) ≡ onto (now (i .entry)) (now (rows .entry)) ⌝ }
-{
-    let mut k = 0;
-    while k < rows.len() {
-        i[k] = rows[k];
-        k += 1;
-    }
-}
-
-// The values into the front of v.
-fn copy_values(vals: &[f64], v: &mut [f64])
-    requires { ⌜ length (now vals) ≤ length (now v) ⌝ }
-    ensures { λ _. ⌜ now (v .exit) ≡ onto (now (v .entry)) (now (vals .entry)) ⌝ }
-{
-    let mut at = 0;
-    while at < vals.len() {
-        v[at] = vals[at];
-        at += 1;
-    }
 }
 
 // Pointers into p, and rows and values as they are given into i and v.

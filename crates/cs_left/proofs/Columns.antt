@@ -7,46 +7,21 @@ use Prim.Native.Nat.{ℕ, zero, suc, _+_, _-_, _≤_, _<_}
 use native.Mathlib.Numerals.{add-one}
 use native.Mathlib.Omega.{arith}
 use lib.Dec.{leb, ltb}
-use lib.Ieee.{Float, nan, binary64, add, mul, div}
+use lib.Ieee.{Float, nan, binary64, div}
 use lib.ListN.{length, getD, set, take, drop, length-set, length-take, length-map}
 use lib.Seq.{getD-set-same, getD-set-other, take-suc, take-all}
 use borrow.Author.Tests.{le-leb, lt-leb, lt-ltb, le-ltb}
 use Rattle.lists.specs.Calls.{onto, none}
 use Rattle.lists.specs.Folds.{along, over}
-use Rattle.lists.specs.Order.{rises}
-use Rattle.lists.specs.Parts.{part, placed}
-use Rattle.lists.specs.Runs.{tight, zipped}
 use Rattle.lists.proofs.Chosen.{map-more}
-use Rattle.lists.proofs.Folds.{Along, along-start, along-turn, along-end, Over, over-start, over-turn, over-end}
+use Rattle.lists.proofs.Entries.{Passing, passing-turn}
+use Rattle.lists.proofs.Folds.{Along, along-start, along-turn, along-end}
 use Rattle.lists.proofs.Laying.{onto-whole}
-use Rattle.lists.proofs.Parts.{onto-none, onto-more, length-onto, length-part}
-use Rattle.lists.proofs.Runs.{tight-within, over-tight}
+use Rattle.lists.proofs.Parts.{onto-none, onto-more, length-onto}
 use Rattle.cs_left.specs.Left.{putAt, quotients}
-use Rattle.cs_left.specs.Steps.{plusAt, zeroAt, Entries, Places}
+use Rattle.cs_left.specs.Steps.{zeroAt, Places}
 
--- ---- `load` and `add_rows`: rows and values side by side
-pub record Passing (f : ℕ → Float → List Float → List Float) (rows : List ℕ) (vals x₀ x : List Float) (q : ℕ) : Type 0 where
-  pub asks : Entries (length x₀) rows vals
-  pub long : length x ≡ length x₀
-  pub is : Over f rows vals x₀ x q
-
-pub passing-start : (f : ℕ → Float → List Float → List Float) {rows : List ℕ} {vals x : List Float} → Entries (length x) rows vals → Passing f rows vals x x 0
-passing-start f {rows} {vals} {x} a = record { asks = a; long = refl; is = over-start f rows vals x }
-
-module _ {f : ℕ → Float → List Float → List Float} {rows : List ℕ} {vals x₀ x : List Float} {q : ℕ} (w : Passing f rows vals x₀ x q) where
-  module _ (h : q < length rows) {z : ℕ} (e : z ≡ getD rows q 0) where
-    pub passing-row : z < length x
-    passing-row = omega (arith, w .asks .below q h, w .long)
-
-    pub passing-turn : {y : List Float} → length y ≡ length x → y ≡ f z (getD vals q nan) x → Passing f rows vals x₀ y (q + 1)
-    passing-turn l t = record { asks = w .asks; long = l ∙ w .long; is = over-turn f rows vals 0 nan (w .asks .alike) (w .is) h (t ∙ (rw e)) }
-
-  pub passing-value : q < length rows → q < length vals
-  passing-value h = omega (arith, w .asks .alike)
-
-  pub passing-end : length rows ≤ q → x ≡ over f rows vals x₀
-  passing-end h = over-end f rows vals (w .is) h
-
+-- ---- `load`
 module _ (k z : ℕ) (v : Float) (x : List Float) where
   put-set : k ≤ z → set x z v ≡ putAt k z v x
   unfolding putAt
@@ -58,27 +33,10 @@ module _ (k z : ℕ) (v : Float) (x : List Float) where
 
 module _ {k : ℕ} {rows : List ℕ} {vals x₀ x : List Float} {q : ℕ} (w : Passing (putAt k) rows vals x₀ x q) (h : q < length rows) {z : ℕ} (e : z ≡ getD rows q 0) where
   pub load-put : k ≤ z → Passing (putAt k) rows vals x₀ (set x z (getD vals q nan)) (q + 1)
-  load-put g = passing-turn w h e (length-set x z _) (put-set k z (getD vals q nan) x g)
+  load-put g = passing-turn w h e nan (length-set x z _) (put-set k z (getD vals q nan) x g)
 
   pub load-pass : z < k → Passing (putAt k) rows vals x₀ x (q + 1)
-  load-pass g = passing-turn w h e refl (put-none k z (getD vals q nan) x g)
-
-pub scatter-turn : (f : Float) {rows : List ℕ} {vals x₀ x : List Float} {q : ℕ} → Passing (plusAt f) rows vals x₀ x q → q < length rows → {z : ℕ} → z ≡ getD rows q 0
-    → Passing (plusAt f) rows vals x₀ (set x z (add binary64 (getD x z nan) (mul binary64 (getD vals q nan) f))) (q + 1)
-unfolding plusAt
-scatter-turn f {x = x} w h {z} e = passing-turn w h e (length-set x z _) refl
-
--- ---- `scatter_add`: rows that are a run are one part of x
-module _ {rows : List ℕ} {vals : List Float} (x : List Float) (a : Entries (length x) rows vals × (rises rows ≡ true)) (t : tight rows ≡ true) {r : ℕ} (e : r ≡ getD rows 0 0) where
-  pub run-within : r + length vals ≤ length x
-  run-within = omega (arith, tight-within rows (a .1) t (length x) (a .0 .below), a .0 .alike)
-
-  pub run-alike : length vals ≡ length (part r (r + length vals) x)
-  run-alike = sym (length-part r (r + length vals) x run-within ∙ omega arith)
-
-  pub run-adds : (f : Float) {y : List Float} → y ≡ zipped (λ a v. add binary64 a (mul binary64 v f)) (part r (r + length vals) x) vals → placed r (r + length vals) x y ≡ over (plusAt f) rows vals x
-  unfolding plusAt
-  run-adds f = over-tight (λ a v. add binary64 a (mul binary64 v f)) nan (plusAt f) rows (a .1) t r (r + length vals) e (λ z v y g. refl) vals (a .0 .alike) x refl run-within
+  load-pass g = passing-turn w h e nan refl (put-none k z (getD vals q nan) x g)
 
 -- ---- `divide`
 pub record Dividing (d : Float) (rows : List ℕ) (vals₀ x₀ vals x : List Float) (q : ℕ) : Type 0 where

@@ -11,6 +11,7 @@ use lib.Ieee.{Float, nan, binary64, neg}
 use lib.ListN.{length, getD, set, take, drop, length-set}
 use lib.Seq.{getD-set-other}
 use borrow.Author.Tests.{le-leb, lt-leb, lt-ltb, le-ltb, eq-eqb, ne-eqb}
+use Rattle.lists.specs.Entries.{Entries, plusAt}
 use Rattle.lists.specs.Folds.{along, over}
 use Rattle.lists.specs.Order.{rises}
 use Rattle.lists.specs.Parts.{part}
@@ -21,7 +22,7 @@ use Rattle.lists.proofs.Positions.{part-drop}
 use Rattle.cs_matrix.specs.Matrix.{column, valueAt}
 use Rattle.cs_matrix.proofs.Values.{value-there}
 use Rattle.cs_left.specs.Left.{addAt, addColumn}
-use Rattle.cs_left.specs.Steps.{plusAt, addHeld, advance, Entries, Cut, Next, Crossing, Crossings}
+use Rattle.cs_left.specs.Steps.{addHeld, advance, Cut, Next, Crossing, Crossings}
 
 -- ---- a column that is cut at row k
 -- the rows before it are passed over

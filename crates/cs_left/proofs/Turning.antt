@@ -12,6 +12,7 @@ use lib.ListN.{length, getD, set, take, drop, replicate, length-set, length-repl
 use lib.Seq.{take-all, take-nil, take-append-le, take-append-seam, getD-set-same, getD-set-other, ext-getD}
 use borrow.Author.Tests.{ltb-true}
 use Rattle.lists.specs.Calls.{none}
+use Rattle.lists.specs.Entries.{Entries}
 use Rattle.lists.specs.Folds.{along, over}
 use Rattle.lists.specs.Order.{lists}
 use Rattle.lists.specs.Parts.{part, placed}
@@ -33,7 +34,7 @@ use Rattle.root.specs.Root.{rootOf}
 use Rattle.lists.proofs.Spots.{member-at, along-same}
 use Rattle.lists.proofs.Positions.{once-apart, drop-same, flatten-last, part-flat, along-keeps}
 use Rattle.cs_left.specs.Left.{putAt, addColumn, addColumns, leftX, leftStep, quotients, left, strays}
-use Rattle.cs_left.specs.Steps.{zeroAt, addHeld, advance, Entries, Places, Cut, Next, Crossing, Crossings, Within, Gathers, Finishes, Asked, Ended}
+use Rattle.cs_left.specs.Steps.{zeroAt, addHeld, advance, Places, Cut, Next, Crossing, Crossings, Within, Gathers, Finishes, Asked, Ended}
 use Rattle.cs_left.proofs.Columns.{length-quotients}
 use Rattle.cs_left.proofs.Cutting.{cut-here, cut-first, next-on, next-stays, length-advances, advance-missing, advance-hit}
 use Rattle.cs_left.proofs.Placed.{in-lower, x-off, diagonal-in}

@@ -5,12 +5,13 @@ use Prim.Native.Nat.{ℕ, zero, suc, _+_, _-_, _≤_, _<_}
 use native.Mathlib.Omega.{arith}
 use lib.Ieee.{Float, nan}
 use lib.ListN.{length, getD, set}
+use Rattle.lists.specs.Entries.{Entries}
 use Rattle.lists.specs.Folds.{along, over}
 use Rattle.lists.specs.Parts.{part, placed}
 use Rattle.lists.proofs.Parts.{length-part}
 use Rattle.cs_matrix.specs.Matrix.{column}
 use Rattle.cs_left.specs.Left.{putAt, quotients}
-use Rattle.cs_left.specs.Steps.{zeroAt, addHeld, advance, Entries, Places, Within, Crossings, Gathers, Finishes}
+use Rattle.cs_left.specs.Steps.{zeroAt, addHeld, advance, Places, Within, Crossings, Gathers, Finishes}
 
 module _ {k a e : ℕ} {p i : List ℕ} (w : Within k p i) (x : a ≡ getD p k 0) (y : e ≡ getD p (k + 1) 0) where
   pub within-order : a ≤ e

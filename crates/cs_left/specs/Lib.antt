@@ -1,3 +1,2 @@
 pub mod Left
-pub mod Cases
 pub mod Steps

@@ -5,10 +5,11 @@ use mathlib.Core.List.{List, flatten, List·Memᴰ}
 use mathlib.Core.Logic.{_⊎_}
 use Prim.Native.Nat.{ℕ, _+_, _-_, _≤_, _<_}
 use lib.Dec.{ltb, eqb}
-use lib.Ieee.{Float, nan, binary64, add, mul}
+use lib.Ieee.{Float}
 use lib.ListN.{length, getD, set, take, drop, replicate}
 use Rattle.lists.specs.Calls.{none}
 use Rattle.lists.specs.Choices.{someOf}
+use Rattle.lists.specs.Entries.{Entries}
 use Rattle.lists.specs.Folds.{along}
 use Rattle.lists.specs.Order.{lists, rises}
 use Rattle.cs_matrix.specs.Matrix.{matrix, column}
@@ -16,10 +17,6 @@ use Rattle.cs_cholesky.specs.declared.Factored.{Factored}
 use Rattle.cs_cholesky.specs.Factor.{Outcome}
 use Rattle.cs_cholesky.specs.Served.{Served}
 use Rattle.cs_left.specs.Left.{addColumn, strays}
-
--- x(z) = x(z) + (v times f)
-unfoldable pub plusAt : Float → ℕ → Float → List Float → List Float
-plusAt f z v x = set x z (add binary64 (getD x z nan) (mul binary64 v f))
 
 -- x(z) = 0
 unfoldable pub zeroAt : ℕ → List Float → List Float
@@ -36,11 +33,6 @@ advance k j w = cond (ltb j k) (set w j (getD w j 0 + 1)) w
 -- one of the rows is below k and absent from those held
 unfoldable pub strayIn : ℕ → List ℕ → List ℕ → Bool
 strayIn k held rows = someOf (λ i. ltb k i && not (lists i held)) rows
-
--- a column's rows, below m, with a value for each
-pub record Entries (m : ℕ) (rows : List ℕ) (vals : List Float) : Type 0 where
-  pub alike : length vals ≡ length rows
-  pub below : (q : ℕ) → q < length rows → getD rows q 0 < m
 
 -- a column's rows, each once and below m, with room for c values
 pub record Places (m : ℕ) (rows : List ℕ) (c : ℕ) : Type 0 where

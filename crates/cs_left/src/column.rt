@@ -1,14 +1,14 @@
 // The steps of one column of the left factoring: what x gathers, and what the column of L becomes.
 ghost use mathlib.Core.Path.{_≡_};
 ghost use mathlib.Core.Bool.{true};
-ghost use lib.Ieee.{binary64, add, mul};
 ghost use lib.ListN.{length};
+ghost use Rattle.lists.specs.Entries.{Entries, plusAt};
 ghost use Rattle.lists.specs.Folds.{along, over};
 ghost use Rattle.lists.specs.Order.{rises};
-ghost use Rattle.lists.specs.Runs.{zipped};
 ghost use Rattle.cs_left.specs.Left.{putAt, quotients};
-ghost use Rattle.cs_left.specs.Steps.{plusAt, zeroAt, addHeld, advance, Entries, Crossings, Places};
+ghost use Rattle.cs_left.specs.Steps.{zeroAt, addHeld, advance, Crossings, Places};
 use lists::numbers::wide;
+use lists::sides::add_times;
 use lists::tight::tight;
 
 // The stored values of rows at and below k are put into x.
@@ -39,18 +39,6 @@ fn add_rows(rows: &[u32], vals: &[f64], f: f64, x: &mut [f64])
     }
 }
 
-// The same, place by place.
-fn add_run(vals: &[f64], f: f64, x: &mut [f64])
-    requires { ⌜ length (now vals) ≡ length (now x) ⌝ }
-    ensures { λ _. ⌜ now (x .exit) ≡ zipped (λ a v. add binary64 a (mul binary64 v f)) (now (x .entry)) (now (vals .entry)) ⌝ }
-{
-    let mut q = 0;
-    while q < vals.len() {
-        x[q] = x[q] + vals[q] * f;
-        q += 1;
-    }
-}
-
 // The same for rows that rise: a run is one part of x. Few rows gain nothing by it.
 fn scatter_add(rows: &[u32], vals: &[f64], f: f64, x: &mut [f64])
     requires { ⌜ Entries (length (now x)) (now rows) (now vals) × (rises (now rows) ≡ true) ⌝ }
@@ -59,7 +47,7 @@ fn scatter_add(rows: &[u32], vals: &[f64], f: f64, x: &mut [f64])
     if rows.len() > 7 {
         if tight(rows) {
             let first = wide(rows[0]);
-            add_run(vals, f, &mut x[first..first + vals.len()]);
+            add_times(vals, f, &mut x[first..first + vals.len()]);
             return;
         }
     }

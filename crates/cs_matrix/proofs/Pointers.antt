@@ -14,6 +14,7 @@ use Rattle.lists.specs.Folds.{every}
 use Rattle.lists.specs.Parts.{part}
 use Rattle.lists.proofs.Bools.{and-true}
 use Rattle.lists.proofs.Folds.{every-at}
+use Rattle.lists.proofs.Ordering.{steps-climb}
 use Rattle.lists.proofs.Parts.{length-part, getD-part}
 use Rattle.cs_matrix.specs.Matrix.{pointers, Pointers, column}
 
@@ -50,13 +51,7 @@ pointers-mean p n h =
 module _ {p : List ℕ} {n : ℕ} (v : Pointers p n) where
   -- a later pointer is not below an earlier one
   pub climb : (a b : ℕ) → a ≤ b → b < length p → getD p a 0 ≤ getD p b 0
-  climb a zero h l = let e : a ≡ 0 = omega arith in rw e (omega arith)
-  climb a (suc b) h l =
-      let s : getD p b 0 ≤ getD p (suc b) 0 = rw add-one at (v .climbs b (omega arith)) in
-      ⊎-elim
-      (λ (e : a ≡ suc b). rw e (omega arith))
-      (λ (m : a < suc b). omega (arith, s, climb a b (omega arith) (omega arith)))
-      (eq-or-lt-of-le h)
+  climb a b h l = steps-climb (length p - 1) p (v .climbs) a b h (omega arith)
 
   -- none is above the entry count
   pub at-most : (k : ℕ) → k < length p → getD p k 0 ≤ n

@@ -11,9 +11,9 @@ use Rattle.lists.specs.Calls.{lowest, both, disagree, lower, Scratch, narrow, w
 use Rattle.lists.proofs.Bools.{not-holds, passed-over}
 use Rattle.lists.proofs.Calls.{Early, From, lowest-both, lower-none, first, then, Wide, not-narrow}
 use Rattle.lists.proofs.Passing.{lowest-none, early-append}
-use Rattle.cs_matrix.specs.Matrix.{Pattern, judgedPattern, judgedSquare, needed, ValidPattern}
-use Rattle.cs_matrix.proofs.Refusing.{with-2, without-2, from-pattern, from-disagree}
-use Rattle.cs_matrix.proofs.Validity.{valid-pattern}
+use Rattle.cs_matrix.specs.Matrix.{Pattern, Matrix, oblong, judgedPattern, judged, judgedSquare, judgedSquareMatrix, needed, ValidPattern, Valid}
+use Rattle.cs_matrix.proofs.Refusing.{with-2, without-2, from-pattern, from-judged, from-disagree}
+use Rattle.cs_matrix.proofs.Validity.{valid-pattern, valid}
 
 -- ---- `check_square`
 module _ (a : Pattern) {r : ℕ} (e : r ≡ lowest (judgedPattern a)) where
@@ -25,13 +25,31 @@ module _ (a : Pattern) {r : ℕ} (e : r ≡ lowest (judgedPattern a)) where
   unfolding judgedSquare
   square-rest h = without-2 a _ e (ap not (eq-eqb (a .nrows) (a .ncols) h))
 
--- a number of 0 says that the pattern is valid and square
+-- no number of an operand, nor 2 beside it
+both-none : (cs : List (ℕ × Bool)) (b : Bool) → From 1 cs → lowest (both cs (disagree b)) ≡ 0 → (lowest cs ≡ 0) × (b ≡ false)
+both-none cs b f h =
+    let t = lower-none (lowest cs) (lowest (disagree b)) (lowest-both 1 cs (disagree b) (omega arith) f (from-disagree b) ∙ h) in
+    (t .0, passed-over b 1 _ (t .1) .0)
+
+-- a number of 0 says that the pattern or matrix is valid and square
 pub valid-square : (a : Pattern) → lowest (judgedSquare a) ≡ 0 → ValidPattern a × (a .nrows ≡ a .ncols)
 unfolding judgedSquare
 valid-square a h =
-    let b = not (eqb (a .nrows) (a .ncols)) in
-    let t = lower-none (lowest (judgedPattern a)) (lowest (disagree b)) (lowest-both 1 (judgedPattern a) (disagree b) (omega arith) (from-pattern a) (from-disagree b) ∙ h) in
-    (valid-pattern a (t .0), eqb-true (a .nrows) (a .ncols) (not-holds _ (passed-over b 1 _ (t .1) .0)))
+    let t = both-none (judgedPattern a) (oblong a) (from-pattern a) h in (valid-pattern a (t .0), eqb-true (a .nrows) (a .ncols) (not-holds _ (t .1)))
+
+pub valid-matrix : (a : Matrix) → lowest (judgedSquareMatrix a) ≡ 0 → Valid a × (a .pattern .nrows ≡ a .pattern .ncols)
+unfolding judgedSquareMatrix
+valid-matrix a h =
+    let t = both-none (judged a) (oblong (a .pattern)) (from-judged a) h in (valid a (t .0), eqb-true (a .pattern .nrows) (a .pattern .ncols) (not-holds _ (t .1)))
+
+-- the numbers are those from 1 to 5
+pub from-square : (a : Pattern) → From 1 (judgedSquare a)
+unfolding judgedSquare judgedPattern both
+from-square a = (refl, (refl, (refl, (refl, (refl, omega arith)))))
+
+pub early-matrix : (a : Matrix) → Early (judgedSquareMatrix a)
+unfolding judgedSquareMatrix judged judgedPattern both
+early-matrix a = (omega arith, omega arith, (omega arith, omega arith, (omega arith, omega arith, (omega arith, omega arith, (omega arith, omega arith, omega arith)))))
 
 early-square : (a : Pattern) → Early (judgedSquare a)
 unfolding judgedSquare judgedPattern both

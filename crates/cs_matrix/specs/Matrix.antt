@@ -80,9 +80,16 @@ judgedPattern a =
 unfoldable pub judged : Matrix → List (ℕ × Bool)
 judged a = both (judgedPattern (a .pattern)) (disagree (not (eqb (length (a .pattern .i)) (length (a .v)))))
 
--- numbers 1 to 5, of a pattern that has to be square: 2 also where it is not
+-- not square
+abbrev pub oblong : Pattern → Bool
+oblong a = not (eqb (a .nrows) (a .ncols))
+
+-- numbers 1 to 5 of a pattern that has to be square, and of such a matrix: 2 also where it is not
 unfoldable pub judgedSquare : Pattern → List (ℕ × Bool)
-judgedSquare a = both (judgedPattern a) (disagree (not (eqb (a .nrows) (a .ncols))))
+judgedSquare a = both (judgedPattern a) (disagree (oblong a))
+
+unfoldable pub judgedSquareMatrix : Matrix → List (ℕ × Bool)
+judgedSquareMatrix a = both (judged a) (disagree (oblong (a .pattern)))
 
 -- a vector is a list of strictly rising rows with as many values
 unfoldable pub judgedVector : Vector → List (ℕ × Bool)

@@ -13,6 +13,7 @@ use lib.ListN.{length, getD, set, take, length-append, length-set, length-replic
 use lib.Seq.{getD-set-same, getD-set-other, getD-take, take-suc-set, length-take-le}
 use borrow.Author.Tests.{eq-eqb, ne-eqb}
 use Rattle.lists.specs.Calls.{none}
+use Rattle.lists.specs.Entries.{plusAt}
 use Rattle.lists.specs.Folds.{over}
 use Rattle.lists.specs.Order.{lists, Once, no-more}
 use Rattle.lists.specs.Parts.{part}
@@ -23,7 +24,7 @@ use Rattle.lists.proofs.Parts.{length-part}
 use Rattle.cs_matrix.specs.Matrix.{Matrix, matrix, Valid}
 use Rattle.cs_matrix.proofs.Pointers.{Between, between, column-is, getD-column}
 use Rattle.lists.proofs.Skipping.{lists-nowhere}
-use Rattle.cs_product.specs.Product.{addAt, addColumn}
+use Rattle.cs_product.specs.Product.{addColumn}
 use Rattle.cs_product.specs.Steps.{Met, Fresh, Adding, Starting}
 use Rattle.lists.proofs.Onces.{lists-snoc, once-snoc, below-snoc, card-once}
 
@@ -118,14 +119,14 @@ module _ (n stamp : ℕ) (beta : Float) (rows : List ℕ) (vals : List Float) wh
     pub alike : length vals ≡ length rows
     pub below : (q : ℕ) → q < length rows → getD rows q 0 < n
     pub met-now : Met n stamp mark met x many
-    pub is : Over (addAt beta) rows vals x₀ x k
+    pub is : Over (plusAt beta) rows vals x₀ x k
 
   pub adding-start : {mark met : List ℕ} {x : List Float} {count : ℕ} → Adding n stamp rows vals mark met x count → AddingUp x mark met x count 0
-  adding-start {x = x} a = record { alike = a .alike; below = a .below; met-now = a .met-so-far; is = over-start (addAt beta) rows vals x }
+  adding-start {x = x} a = record { alike = a .alike; below = a .below; met-now = a .met-so-far; is = over-start (plusAt beta) rows vals x }
 
   module _ {x₀ : List Float} {mark met : List ℕ} {x : List Float} {many k : ℕ} (s : AddingUp x₀ mark met x many k) where
-    pub adding-done : length rows ≤ k → (x ≡ over (addAt beta) rows vals x₀) × Met n stamp mark met x many
-    adding-done h = (over-end (addAt beta) rows vals (s .is) h, s .met-now)
+    pub adding-done : length rows ≤ k → (x ≡ over (plusAt beta) rows vals x₀) × Met n stamp mark met x many
+    adding-done h = (over-end (plusAt beta) rows vals (s .is) h, s .met-now)
 
     pub many-small : many ≤ 65535
     many-small = omega (arith, s .met-now .within, s .met-now .small)
@@ -137,9 +138,9 @@ module _ (n stamp : ℕ) (beta : Float) (rows : List ℕ) (vals : List Float) wh
       pub in-vals : k < length vals
       in-vals = omega (arith, s .alike)
 
-      turn : {y : Float} → y ≡ add binary64 (getD x r nan) (mul binary64 (getD vals k nan) beta) → Over (addAt beta) rows vals x₀ (set x r y) (k + 1)
-      unfolding addAt
-      turn f = over-turn (addAt beta) rows vals 0 nan (s .alike) (s .is) h (rw (f, e))
+      turn : {y : Float} → y ≡ add binary64 (getD x r nan) (mul binary64 (getD vals k nan) beta) → Over (plusAt beta) rows vals x₀ (set x r y) (k + 1)
+      unfolding plusAt
+      turn f = over-turn (plusAt beta) rows vals 0 nan (s .alike) (s .is) h (rw (f, e))
 
       pub adding-again : getD mark r 0 ≡ stamp → {y : Float} → y ≡ add binary64 (getD x r nan) (mul binary64 (getD vals k nan) beta) → AddingUp x₀ mark met (set x r y) many (k + 1)
       adding-again f {y} g = record { alike = s .alike; below = s .below; met-now = met-again (s .met-now) row-below f y; is = turn g }
@@ -208,7 +209,7 @@ module _ (nrows ncols : ℕ) (p i : List ℕ) (v : List Float) (stamp : ℕ) (ro
         pub accumulating-asks : Adding nrows stamp (part b e i) (part b e v) mark met x many
         accumulating-asks = record { alike = omega (arith, length-part b e v in-v, length-part b e i (handed .inside)); below = column-below; met-so-far = s .met-now }
 
-        pub accumulating-turn : {mark′ met′ : List ℕ} {x′ : List Float} {next : ℕ} → x′ ≡ over (addAt (getD vals k nan)) (part b e i) (part b e v) x → Met nrows stamp mark′ met′ x′ next → Accumulating x₀ mark′ met′ x′ next (k + 1)
+        pub accumulating-turn : {mark′ met′ : List ℕ} {x′ : List Float} {next : ℕ} → x′ ≡ over (plusAt (getD vals k nan)) (part b e i) (part b e v) x → Met nrows stamp mark′ met′ x′ next → Accumulating x₀ mark′ met′ x′ next (k + 1)
         unfolding addColumn
         accumulating-turn q m =
             record {

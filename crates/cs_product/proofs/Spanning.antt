@@ -12,6 +12,7 @@ use lib.ListN.{length, getD, set, replicate, getD-replicate}
 use lib.Seq.{getD-set-other}
 use Rattle.lists.specs.Calls.{none}
 use Rattle.lists.specs.Choices.{chosen}
+use Rattle.lists.specs.Entries.{plusAt}
 use Rattle.lists.specs.Folds.{along, over}
 use Rattle.lists.specs.Order.{rises}
 use Rattle.lists.proofs.Folds.{Along, along-start, along-turn, along-end}
@@ -19,7 +20,7 @@ use Rattle.lists.proofs.HowMany.{chosen-but, chosen-between}
 use Rattle.lists.proofs.Ordering.{rises-apart}
 use Rattle.cs_matrix.specs.Matrix.{Pattern, pattern, Matrix, column}
 use Rattle.cs_matrix.proofs.Pointers.{Between, between, length-column, getD-column}
-use Rattle.cs_product.specs.Product.{addAt, addColumn, remains}
+use Rattle.cs_product.specs.Product.{addColumn, remains}
 use Rattle.cs_product.specs.Steps.{columnOf, Within, workOf, Spanned}
 use Rattle.cs_product.proofs.Remaining.{dropped}
 
@@ -135,28 +136,28 @@ module _ (n : ℕ) where
   abbrev many : List Float → ℕ
   many w = length (chosen n (remains w))
 
-  at-more : (beta : Float) (r : ℕ) (v : Float) (w : List Float) → many (addAt beta r v w) ≤ many w + 1
-  unfolding addAt remains
+  at-more : (beta : Float) (r : ℕ) (v : Float) (w : List Float) → many (plusAt beta r v w) ≤ many w + 1
+  unfolding plusAt remains
   at-more beta r v w =
       let y = add binary64 (getD w r nan) (mul binary64 v beta) in
       chosen-but n (remains (set w r y)) (remains w) r (λ q h d e. sym (ap (λ (t : Float). not (eq t none)) (getD-set-other w r q y nan d)) ∙ e)
 
-  over-more : (beta : Float) (rows : List ℕ) (vals w : List Float) → many (over (addAt beta) rows vals w) ≤ many w + length rows
+  over-more : (beta : Float) (rows : List ℕ) (vals w : List Float) → many (over (plusAt beta) rows vals w) ≤ many w + length rows
   unfolding over
   over-more beta [] vals w = omega arith
   over-more beta (r ∷ rows) [] w = omega arith
-  over-more beta (r ∷ rows) (v ∷ vals) w = omega (arith, at-more beta r v w, over-more beta rows vals (addAt beta r v w))
+  over-more beta (r ∷ rows) (v ∷ vals) w = omega (arith, at-more beta r v w, over-more beta rows vals (plusAt beta r v w))
 
 -- ---- what is not added to
-at-keeps : (beta : Float) (k : ℕ) (v : Float) (w : List Float) (r : ℕ) → (k ≡ r → ⊥) → getD (addAt beta k v w) r nan ≡ getD w r nan
-unfolding addAt
+at-keeps : (beta : Float) (k : ℕ) (v : Float) (w : List Float) (r : ℕ) → (k ≡ r → ⊥) → getD (plusAt beta k v w) r nan ≡ getD w r nan
+unfolding plusAt
 at-keeps beta k v w r d = getD-set-other w k r (add binary64 (getD w k nan) (mul binary64 v beta)) nan (λ e. d (sym e))
 
-over-keeps : (beta : Float) (rows : List ℕ) (vals w : List Float) (r : ℕ) → ((q : ℕ) → q < length rows → getD rows q 0 ≡ r → ⊥) → getD (over (addAt beta) rows vals w) r nan ≡ getD w r nan
+over-keeps : (beta : Float) (rows : List ℕ) (vals w : List Float) (r : ℕ) → ((q : ℕ) → q < length rows → getD rows q 0 ≡ r → ⊥) → getD (over (plusAt beta) rows vals w) r nan ≡ getD w r nan
 unfolding over
 over-keeps beta [] vals w r f = refl
 over-keeps beta (k ∷ rows) [] w r f = refl
-over-keeps beta (k ∷ rows) (v ∷ vals) w r f = over-keeps beta rows vals (addAt beta k v w) r (λ q l. f (suc q) (omega arith)) ∙ at-keeps beta k v w r (f 0 (omega arith))
+over-keeps beta (k ∷ rows) (v ∷ vals) w r f = over-keeps beta rows vals (plusAt beta k v w) r (λ q l. f (suc q) (omega arith)) ∙ at-keeps beta k v w r (f 0 (omega arith))
 
 module _ (a : Matrix) where
   abbrev rowsOf : ℕ → List ℕ

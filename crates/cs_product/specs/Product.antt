@@ -4,22 +4,18 @@ use mathlib.Core.Bool.{Bool, not}
 use mathlib.Core.List.{List, [], _∷_, _++_}
 use Prim.Native.Nat.{ℕ, _+_, max}
 use lib.Dec.{eqb}
-use lib.Ieee.{Float, nan, binary64, add, mul, eq}
-use lib.ListN.{getD, set, replicate}
+use lib.Ieee.{Float, nan, eq}
+use lib.ListN.{getD, replicate}
 use Rattle.lists.specs.Calls.{lowest, none, narrow, Lent}
+use Rattle.lists.specs.Entries.{plusAt}
 use Rattle.lists.specs.Folds.{over}
 use Rattle.cs_matrix.specs.Matrix.{Pattern, Matrix, Stored, column, short}
 use Rattle.cs_columns.specs.Columns.{withEntries, judgedTwo}
 
--- w(k) = w(k) + (v times β)
-unfoldable pub addAt : Float → ℕ → Float → List Float → List Float
-unfolding add mul
-addAt beta k v w = set w k (add binary64 (getD w k nan) (mul binary64 v beta))
-
--- for stored (k, v) of A's column i
+-- for stored (k, v) of A's column i: w(k) = w(k) + (v times β)
 unfoldable pub addColumn : Matrix → ℕ → Float → List Float → List Float
-unfolding addAt
-addColumn a i beta w = over (addAt beta) (column (a .pattern .p) i (a .pattern .i)) (column (a .pattern .p) i (a .v)) w
+unfolding plusAt
+addColumn a i beta w = over (plusAt beta) (column (a .pattern .p) i (a .pattern .i)) (column (a .pattern .p) i (a .v)) w
 
 -- column j, from +0.0: for stored (i, β) of B's column j rising
 unfoldable pub accumulated : Matrix → Matrix → ℕ → List Float

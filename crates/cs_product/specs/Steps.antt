@@ -118,14 +118,6 @@ pub record Spanned (a : Pattern) (cols : List ℕ) (lo hi work : ℕ) : Type 0 w
   pub work-small : work ≤ 17592186044416
 
 -- ---- a column of the product without marks
--- what `add_plain` asks: a column of A, and x
-pub record Addable (n : ℕ) (rows : List ℕ) (vals x : List Float) : Type 0 where
-  pub small : n ≤ 65535
-  pub alike : length vals ≡ length rows
-  pub below : (k : ℕ) → k < length rows → getD rows k 0 < n
-  pub rise : rises rows ≡ true
-  pub x-long : length x ≡ n
-
 -- what `accumulate_plain` asks: A, a column of B, and x
 pub record Plain (a : Matrix) (rows : List ℕ) (vals x : List Float) : Type 0 where
   pub valid : Valid a

@@ -1,9 +1,10 @@
 // One column of the product, in x. A row that is met first is marked with the column's stamp and listed in `met`, so that only those
 // rows are looked at afterwards.
 ghost use mathlib.Core.Path.{_≡_};
+ghost use Rattle.lists.specs.Entries.{plusAt};
 ghost use Rattle.lists.specs.Folds.{over};
 ghost use Rattle.cs_matrix.specs.Matrix.{matrix};
-ghost use Rattle.cs_product.specs.Product.{addAt, addColumn};
+ghost use Rattle.cs_product.specs.Product.{addColumn};
 ghost use Rattle.cs_product.specs.Steps.{Met, Adding, Starting};
 use lists::numbers::wide;
 
@@ -20,7 +21,7 @@ fn add_column(
     count: usize,
 ) -> usize
     requires { ⌜ Adding n stamp (now rows) (now vals) (now mark) (now met) (now x) count ⌝ }
-    ensures { λ r. ⌜ (now (x .exit) ≡ over (addAt beta) (now (rows .entry)) (now (vals .entry)) (now (x .entry))) × Met n stamp (now (mark .exit)) (now (met .exit)) (now (x .exit)) r ⌝ }
+    ensures { λ r. ⌜ (now (x .exit) ≡ over (plusAt beta) (now (rows .entry)) (now (vals .entry)) (now (x .entry))) × Met n stamp (now (mark .exit)) (now (met .exit)) (now (x .exit)) r ⌝ }
 {
     let mut many = count;
     for k in 0..rows.len() {

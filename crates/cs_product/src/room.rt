@@ -5,9 +5,9 @@ ghost use Rattle.cs_matrix.specs.Matrix.{matrix};
 ghost use Rattle.cs_columns.specs.Columns.{shortFor};
 ghost use Rattle.cs_product.specs.Steps.{size, Fresh, Operands, Begun};
 use crate::columns::count_column;
-use crate::span::smaller;
 use crate::span::span_of;
 use cs_columns::judge::no_room;
+use lists::numbers::smaller;
 use lists::numbers::wide;
 
 // No fewer than the entries that remain: of each column the length of its span or its work, whichever is smaller.

@@ -1,9 +1,9 @@
 // The rows that a column of the product can have: from the least first row to the largest last row of the columns of A that it takes.
 ghost use mathlib.Core.Path.{_≡_};
-ghost use Prim.Native.Nat.{min};
 ghost use Rattle.cs_matrix.specs.Matrix.{pattern};
 ghost use Rattle.cs_product.specs.Steps.{Within, Spanned};
 use lists::numbers::larger;
+use lists::numbers::smaller;
 use lists::numbers::wide;
 
 // Rows from lo on and below hi; work is how many entries of A are taken.
@@ -11,13 +11,6 @@ pub struct Span {
     pub lo: usize,
     pub hi: usize,
     pub work: usize,
-}
-
-// The lower of the two.
-pub fn smaller(a: usize, b: usize) -> usize
-    ensures { λ r. ⌜ r ≡ min a b ⌝ }
-{
-    if a < b { a } else { b }
 }
 
 // The span of the columns `cols` of A.

@@ -11,6 +11,7 @@ use Rattle.lists.specs.Folds.{over}
 use Rattle.lists.specs.Order.{rises}
 use Rattle.lists.specs.Parts.{part, placed}
 use Rattle.lists.specs.Runs.{tight, zipped}
+use Rattle.lists.proofs.Folds.{over-first}
 use Rattle.lists.proofs.Ordering.{rises-apart}
 use Rattle.lists.proofs.Parts.{length-part, getD-part}
 use Rattle.lists.proofs.Pushing.{part-first}
@@ -18,10 +19,6 @@ use Rattle.lists.proofs.Runs.{rises-part, tight-within, over-tight}
 use Rattle.cs_solve.specs.Solve.{lowerAt}
 use Rattle.cs_solve.specs.TrSolve.{Column}
 use Rattle.cs_solve.proofs.Steps.{lower-set, lower-above}
-
-over-first : (f : ℕ → Float → List Float → List Float) (i : ℕ) (v : Float) (rows : List ℕ) (vals b : List Float) → over f (i ∷ rows) (v ∷ vals) b ≡ over f rows vals (f i v b)
-unfolding over
-over-first f i v rows vals b = refl
 
 whole : {A : Type 0} (l : List A) (d : A) (n : ℕ) → 1 < n → length l ≡ n → l ≡ getD l 0 d ∷ part 1 n l
 whole l d n h e = sym (take-all (n - 0) l (omega arith)) ∙ part-first 0 n l d (omega arith) (omega arith)
@@ -44,9 +41,6 @@ module _ {j : ℕ} {rows : List ℕ} {vals : List Float} (b : List Float) {n : �
     run-within =
         let w = tight-within (part 1 n rows) below-rise t (length b) (λ q g. rw (getD-part 1 n rows q 0 (omega (arith, below-long))) (a .below (1 + q) (omega (arith, below-long)))) in
         omega (arith, first-is, below-long)
-
-    pub run-alike : length (part 1 n vals) ≡ length (part first (first + (n - 1)) b)
-    run-alike = vals-long ∙ sym (length-part first (first + (n - 1)) b run-within ∙ omega arith)
 
     pub run-lowers : (x : Float) → getD rows 0 0 ≡ j → {y : List Float} → y ≡ zipped (λ y v. sub binary64 y (mul binary64 x v)) (part first (first + (n - 1)) b) (part 1 n vals)
         → placed first (first + (n - 1)) b y ≡ over (lowerAt j x) rows vals b

@@ -7,13 +7,13 @@ use lib.ListN.{length}
 use lib.Ieee.{Float}
 use Rattle.lists.specs.Calls.{lowest, both, disagree}
 use Rattle.lists.specs.Choices.{chosen, some}
-use Rattle.cs_matrix.specs.Matrix.{Matrix, judged}
+use Rattle.cs_matrix.specs.Matrix.{Matrix, judged, oblong}
 use Rattle.cs_solve.specs.Diagonal.{lacking}
 use Rattle.cs_solve.specs.declared.Solved.{Solved}
 
 -- 1 to 5, where the right side has m elements: those of the matrix, and 2 where it is not square or m is not its dimension
 unfoldable pub judgedSolve : Matrix → ℕ → List (ℕ × Bool)
-judgedSolve a m = both (judged a) (disagree (not (eqb (a .pattern .nrows) (a .pattern .ncols)) || not (eqb m (a .pattern .ncols))))
+judgedSolve a m = both (judged a) (disagree (oblong (a .pattern) || not (eqb m (a .pattern .ncols))))
 
 -- the columns whose diagonal is absent, +0 or -0, rising
 unfoldable pub lackingColumns : Matrix → List ℕ

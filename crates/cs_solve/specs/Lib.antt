@@ -2,4 +2,3 @@ pub mod Diagonal
 pub mod Judge
 pub mod Solve
 pub mod TrSolve
-pub mod Cases

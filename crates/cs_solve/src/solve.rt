@@ -16,6 +16,7 @@ use crate::Solved;
 use crate::diagonal::value_at;
 use crate::judge::first_lacking;
 use crate::judge::judge;
+use lists::numbers::smaller;
 use lists::numbers::wide;
 use lists::tight::tight;
 
@@ -35,11 +36,11 @@ fn lower_rows(j: usize, x: f64, rows: &[u32], vals: &[f64], b: &mut [f64])
 
 // b(k) = b(k) - (x times value), place by place.
 fn lower_run(x: f64, vals: &[f64], b: &mut [f64])
-    requires { ⌜ length (now vals) ≡ length (now b) ⌝ }
     ensures { λ _. ⌜ now (b .exit) ≡ zipped (λ y v. sub binary64 y (mul binary64 x v)) (now (b .entry)) (now (vals .entry)) ⌝ }
 {
+    let n = smaller(vals.len(), b.len());
     let mut k = 0;
-    while k < vals.len() {
+    while k < n {
         b[k] = b[k] - x * vals[k];
         k += 1;
     }

@@ -8,7 +8,7 @@ use lib.ListN.{length, getD, set, replicate}
 use Rattle.lists.specs.Calls.{lowest, both, disagree, narrow, onto, none, Lent}
 use Rattle.lists.specs.Choices.{keep, some}
 use Rattle.lists.specs.Folds.{along, over}
-use Rattle.cs_matrix.specs.Matrix.{Matrix, Vector, vector, judged, judgedVector, needed}
+use Rattle.cs_matrix.specs.Matrix.{Matrix, Vector, vector, judged, judgedVector, oblong, needed}
 use Rattle.cs_solve.specs.Diagonal.{lacking}
 use Rattle.cs_solve.specs.Solve.{forwardColumn}
 use Rattle.cs_solve_cs.specs.Reach.{reached}
@@ -35,7 +35,7 @@ lackingReached a b = keep (lacking a) (reached (a .pattern) (b .i))
 
 -- 1 to 5: those of the matrix and of the right side, number by number, and 2 where the matrix is not square
 unfoldable pub judgedCs : Matrix → Vector → List (ℕ × Bool)
-judgedCs a b = both (both (judged a) (judgedVector b)) (disagree (not (eqb (a .pattern .nrows) (a .pattern .ncols))))
+judgedCs a b = both (both (judged a) (judgedVector b)) (disagree (oblong (a .pattern)))
 
 -- the slices that a vector is written to
 pub record Stored : Type 0 where

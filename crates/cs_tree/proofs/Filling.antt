@@ -18,7 +18,8 @@ use Rattle.cs_tree.specs.Pattern.{paths, upperColumn, upper, entries}
 use Rattle.cs_tree.specs.Steps.{Marks, Walks, Zeros, Given, Pointed, lengths}
 use Rattle.cs_tree.proofs.Count.{upperColumn-short}
 use Rattle.cs_tree.proofs.Growing.{tree-long, tree-above}
-use Rattle.cs_tree.proofs.Laid.{entries-more, entries-part, length-lengths, lengths-at, length-laid, flatten-more}
+use Rattle.cs_tree.proofs.Laid.{entries-more, entries-part, length-lengths, lengths-at, length-laid}
+use Rattle.lists.proofs.Positions.{flatten-last}
 use Rattle.cs_tree.proofs.Laws.{upper-at}
 use Rattle.cs_tree.proofs.Lower.{length-upper}
 use Rattle.cs_tree.proofs.Walking.{marks-fresh, marks-next}
@@ -169,7 +170,7 @@ module _ {cols : List (List ℕ)} {par ui₀ mark ui up : List ℕ} {k : ℕ} (g
           m-long = l ∙ v .m-long;
           room = v .room;
           fresh = marks-next (r .1);
-          is = rw (v .is, s, flatten-more (take k (upper cols)) (getD (upper cols) k [])) (onto-placed ui₀ front ys b f (front-long ∙ sym (pointed-start g p h x y)) (pointed-order g p h x y) t ∙ ap (λ (z : List ℕ). onto ui₀ (front ++ z)) w);
+          is = rw (v .is, s, flatten-last (take k (upper cols)) (getD (upper cols) k [])) (onto-placed ui₀ front ys b f (front-long ∙ sym (pointed-start g p h x y)) (pointed-order g p h x y) t ∙ ap (λ (z : List ℕ). onto ui₀ (front ++ z)) w);
         }
 
   pub filling-done : length cols ≤ k → ui ≡ onto ui₀ (flatten (upper cols))

@@ -18,6 +18,7 @@ use Rattle.lists.specs.Order.{lists, Once, no-more, one-more}
 use Rattle.lists.specs.Sums.{sums}
 use Rattle.lists.specs.Tables.{from, table}
 use Rattle.lists.proofs.Members.{listed-or-not, lists-same, lists-other}
+use Rattle.lists.proofs.Positions.{flatten-last}
 use Rattle.lists.proofs.Tables.{length-table, getD-table, is-table}
 use Rattle.cs_tree.specs.Pattern.{starts, entries, across, transposed}
 use Rattle.cs_tree.specs.Steps.{lengths, numbers}
@@ -138,15 +139,10 @@ module _ (f : ℕ → List ℕ) where
   from-take b zero (suc k) h = absurd (omega arith)
   from-take b (suc n) (suc k) h = ap (λ (l : List (List ℕ)). f b ∷ l) (from-take (suc b) n k (omega arith))
 
-pub flatten-more : (us : List (List ℕ)) (c : List ℕ) → flatten (us ++ (c ∷ [])) ≡ flatten us ++ c
-unfolding flatten
-flatten-more [] c = append-nil c
-flatten-more (u ∷ us) c = ap (λ (l : List ℕ). u ++ l) (flatten-more us c) ∙ sym (append-assoc u (flatten us) c)
-
 pub flatten-keys : (ks xs : List ℕ) (n : ℕ) → flatten (table n (λ j. ofKey j ks xs)) ≡ byKey n ks xs
 unfolding byKey flatten from
 flatten-keys ks xs zero = refl
-flatten-keys ks xs (suc n) = ap flatten (table-more (λ j. ofKey j ks xs) n) ∙ flatten-more (table n (λ j. ofKey j ks xs)) (ofKey n ks xs) ∙ ap (λ (l : List ℕ). l ++ ofKey n ks xs) (flatten-keys ks xs n)
+flatten-keys ks xs (suc n) = ap flatten (table-more (λ j. ofKey j ks xs) n) ∙ flatten-last (table n (λ j. ofKey j ks xs)) (ofKey n ks xs) ∙ ap (λ (l : List ℕ). l ++ ofKey n ks xs) (flatten-keys ks xs n)
 
 module _ (us : List (List ℕ)) (o : (k : ℕ) → Once (getD us k [])) where
   abbrev ks : List ℕ

@@ -9,15 +9,10 @@ use Rattle.lists.specs.Calls.{onto}
 use Rattle.lists.specs.Parts.{part}
 use Rattle.lists.proofs.Laying.{part-at}
 use Rattle.lists.proofs.Parts.{getD-onto-front}
+use Rattle.lists.proofs.Positions.{flatten-at}
 use Rattle.cs_tree.specs.Pattern.{starts, entries}
 use Rattle.cs_tree.proofs.Count.{length-starts}
 use Rattle.cs_tree.proofs.Laid.{entries-more, length-laid, start-at}
-
-split-at : (us : List (List ℕ)) (k : ℕ) → k < length us → flatten us ≡ flatten (take k us) ++ (getD us k [] ++ flatten (drop (suc k) us))
-unfolding flatten
-split-at [] k h = absurd (omega arith)
-split-at (c ∷ cs) zero h = refl
-split-at (c ∷ cs) (suc k) h = ap (λ (l : List ℕ). c ++ l) (split-at cs k (omega arith)) ∙ sym (append-assoc c (flatten (take k cs)) (getD cs k [] ++ flatten (drop (suc k) cs)))
 
 module _ (us : List (List ℕ)) (d e : List ℕ) (k : ℕ) (h : k < length us) where
   pub start-onto : getD (onto d (starts 0 us)) k 0 ≡ entries (take k us)
@@ -33,7 +28,7 @@ module _ (us : List (List ℕ)) (d e : List ℕ) (k : ℕ) (h : k < length us) w
       let x = entries (take k us) in
       let r = flatten (drop (suc k) us) ++ drop (length (flatten us)) e in
       let l : onto e (flatten us) ≡ flatten (take k us) ++ (getD us k [] ++ r) =
-      ap (λ (z : List ℕ). z ++ drop (length (flatten us)) e) (split-at us k h)
+      ap (λ (z : List ℕ). z ++ drop (length (flatten us)) e) (flatten-at us k h)
       ∙ append-assoc (flatten (take k us)) (getD us k [] ++ flatten (drop (suc k) us)) (drop (length (flatten us)) e)
       ∙ ap (λ (z : List ℕ). flatten (take k us) ++ z) (append-assoc (getD us k []) (flatten (drop (suc k) us)) (drop (length (flatten us)) e)) in
       rw (start-onto, end-onto) (ap (part x (x + length (getD us k []))) l ∙ part-at (flatten (take k us)) (getD us k []) r x (x + length (getD us k [])) (length-laid (take k us)) (omega arith))

@@ -38,7 +38,7 @@ pub blank-other : {r : ℕ} (l m : List Float) → (r ≡ 11 → ⊥) → l ≡ 
 blank-other {r} l m e = rw (ne-eqb r 11 e)
 
 -- it ends with 0, or stops with 11
-up-ends : (a : Matrix) → (upOf a .answer ≡ factored 0 0 none) ⊎ (upOf a .answer .number ≡ 11)
+pub up-ends : (a : Matrix) → (upOf a .answer ≡ factored 0 0 none) ⊎ (upOf a .answer .number ≡ 11)
 unfolding upOf
 up-ends a = factor-ends (upStep a (upper (columns (a .pattern))) (lower (columns (a .pattern)))) (a .pattern .ncols) 0 []
 

@@ -1,6 +1,6 @@
 -- `rows_at`: row k of L, column by column. The value of column j goes to the place that has row k, the rows before it are taken
 -- from x, and each of them is still to come in U's column k. Assumes nothing.
-use mathlib.Core.Bool.{cond}
+use mathlib.Core.Bool.{true, cond}
 use mathlib.Core.List.{List, [], _∷_, _++_, List·Memᴰ, List·Memᴰ·head, List·Memᴰ·tail, List·Memᴰ·not-nil, List·Memᴰ·cases-cons}
 use mathlib.Core.Logic.{_⊎_, ⊎-elim, inl, inr, _≢_}
 use mathlib.Core.Path.{_≡_, refl, sym, ap, _∙_}
@@ -12,41 +12,40 @@ use lib.ListN.{length, getD, set, drop, replicate, length-set, length-replicate,
 use lib.Seq.{ext-getD, getD-set-same, getD-set-other}
 use borrow.Author.Tests.{lt-ltb, le-ltb}
 use Rattle.lists.specs.Calls.{none}
+use Rattle.lists.specs.Entries.{Entries}
 use Rattle.lists.specs.Folds.{over}
+use Rattle.lists.specs.Order.{rises}
 use Rattle.lists.specs.Parts.{part}
 use Rattle.lists.proofs.Bools.{eq-or-ne, le-or-lt}
 use Rattle.lists.proofs.Folds.{Along, along-start, along-turn, along-end}
 use Rattle.lists.proofs.Members.{listed-or-not}
+use Rattle.lists.proofs.Ordering.{steps-climb}
 use Rattle.lists.proofs.Parts.{left-at, left-none, length-part, getD-part}
 use Rattle.lists.proofs.Spots.{member-at, once-behind}
 use Rattle.lists.proofs.Runs.{rises-part}
 use Rattle.cs_matrix.specs.Matrix.{column, valueAt}
 use Rattle.cs_tree.specs.Least.{In}
-use Rattle.cs_up.specs.Steps.{way, takeAt, held, goes, Takes, Reads, Cut, Lies, Rows, Rowed}
+use Rattle.cs_up.specs.Steps.{way, takeAt, held, goes, Reads, Cut, Lies, Rows, Rowed}
 use Rattle.cs_up.specs.Up.{Way, subAt, rowAt}
 use Rattle.cs_up.proofs.Holding.{held-at, held-push}
 use Rattle.cs_up.proofs.Taking.{length-taken, taken-other, first-value, column-takes}
 
 -- ---- one column
 module _ {j s e : ℕ} {li : List ℕ} {lx x : List Float} (r : Reads j s e li lx x) where
-  pub reads-takes : (y : Float) → Takes (part (s + 1) e li) (part (s + 1) e lx) (set x j y)
+  pub reads-takes : (y : Float) → Entries (length (set x j y)) (part (s + 1) e li) (part (s + 1) e lx) × (rises (part (s + 1) e li) ≡ true)
   reads-takes y =
       let a = length-part (s + 1) e li (r .rows) in
-      let b : e ≤ length lx = omega (arith, r .room) in
-      record {
-        alike = length-part (s + 1) e lx b ∙ sym a;
-        below = λ z h. rw (getD-part (s + 1) e li z 0 (omega arith), length-set x j y) (r .below (s + 1 + z) (omega arith) (omega arith));
-        rise = rises-part (s + 1) e li (r .rows) (λ z q l m o. r .rise z q (omega arith) m o);
-      }
+      let b : e ≤ length lx = omega (arith, r .room) in (
+        record {
+          alike = length-part (s + 1) e lx b ∙ sym a;
+          below = λ z h. rw (getD-part (s + 1) e li z 0 (omega arith), length-set x j y) (r .below (s + 1 + z) (omega arith) (omega arith));
+        },
+        rises-part (s + 1) e li (r .rows) (λ z q l m o. r .rise z q (omega arith) m o),
+      )
 
 -- the pointers climb
 pub climbs : {n t : ℕ} {us : List (List ℕ)} {lp li : List ℕ} → Lies n t us lp li → (a b : ℕ) → a ≤ b → b ≤ n → getD lp a 0 ≤ getD lp b 0
-climbs l a zero h g = let e : a ≡ 0 = omega arith in rw e (omega arith)
-climbs {lp = lp} l a (suc b) h g =
-    ⊎-elim
-    (λ (q : suc b ≤ a). let e : a ≡ suc b = omega arith in rw e (omega arith))
-    (λ (q : a < suc b). let e : b + 1 ≡ suc b = omega arith in omega (arith, climbs l a b (omega arith) (omega arith), rw e at (l .climb b (omega arith))))
-    (le-or-lt (suc b) a)
+climbs {n = n} {lp = lp} l a b h g = steps-climb n lp (l .climb) a b h g
 
 -- ---- the definition's step of one column, by its parts
 row-parts : (k j : ℕ) (rows : List ℕ) (vals x : List Float) (pivot t : Float) (done : List (List Float)) → getD done j [] ≡ vals → t ≡ div binary64 (getD x j nan) (valueAt j rows vals)

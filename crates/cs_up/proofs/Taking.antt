@@ -8,54 +8,30 @@ use lib.Ieee.{Float, nan, binary64, sub, mul}
 use lib.ListN.{length, getD, set, take, length-set}
 use lib.Seq.{getD-set-other}
 use borrow.Author.Tests.{lt-ltb, le-ltb, eq-eqb}
+use Rattle.lists.specs.Entries.{Entries}
 use Rattle.lists.specs.Folds.{over}
+use Rattle.lists.specs.Order.{rises}
 use Rattle.lists.specs.Parts.{part, placed}
 use Rattle.lists.specs.Runs.{tight, zipped}
-use Rattle.lists.proofs.Folds.{Over, over-start, over-turn, over-end}
+use Rattle.lists.proofs.Entries.{Passing, passing-turn, run-passes}
+use Rattle.lists.proofs.Folds.{over-first}
 use Rattle.lists.proofs.Parts.{length-part, getD-part}
 use Rattle.lists.proofs.Positions.{over-keeps}
 use Rattle.lists.proofs.Pushing.{part-first, part-shorter}
-use Rattle.lists.proofs.Runs.{tight-within, over-tight}
 use Rattle.cs_matrix.specs.Matrix.{valueAt}
-use Rattle.cs_up.specs.Steps.{takeAt, Takes}
+use Rattle.cs_up.specs.Steps.{takeAt}
 use Rattle.cs_up.specs.Up.{subAt}
 
--- ---- the loop
-pub record Taking (t : Float) (rows : List ℕ) (vals x₀ x : List Float) (z : ℕ) : Type 0 where
-  pub ask : Takes rows vals x₀
-  pub long : length x ≡ length x₀
-  pub rest : Over (takeAt t) rows vals x₀ x z
+-- ---- the loop, and rows that are a run
+pub taking-turn : (t : Float) {rows : List ℕ} {vals x₀ x : List Float} {z : ℕ} → Passing (takeAt t) rows vals x₀ x z → z < length rows → {r : ℕ} → r ≡ getD rows z 0
+    → Passing (takeAt t) rows vals x₀ (set x r (sub binary64 (getD x r nan) (mul binary64 (getD vals z nan) t))) (z + 1)
+unfolding takeAt
+taking-turn t {x = x} w h {r} e = passing-turn w h e nan (length-set x r _) refl
 
-pub taking-start : (t : Float) {rows : List ℕ} {vals x : List Float} → Takes rows vals x → Taking t rows vals x x 0
-taking-start t {rows} {vals} {x} a = record { ask = a; long = refl; rest = over-start (takeAt t) rows vals x }
-
-module _ {t : Float} {rows : List ℕ} {vals x₀ x : List Float} {z : ℕ} (w : Taking t rows vals x₀ x z) where
-  module _ (h : z < length rows) {r : ℕ} (e : r ≡ getD rows z 0) where
-    pub taking-row : r < length x
-    taking-row = omega (arith, w .ask .below z h, w .long)
-
-    pub taking-turn : Taking t rows vals x₀ (set x r (sub binary64 (getD x r nan) (mul binary64 (getD vals z nan) t))) (z + 1)
-    unfolding takeAt
-    taking-turn = record {
-      ask = w .ask;
-      long = length-set x r _ ∙ w .long;
-      rest = over-turn (takeAt t) rows vals 0 nan (w .ask .alike) (w .rest) h (rw e);
-    }
-
-  pub taking-done : length rows ≤ z → x ≡ over (takeAt t) rows vals x₀
-  taking-done g = over-end (takeAt t) rows vals (w .rest) g
-
--- ---- rows that are a run are one part of x
-module _ {rows : List ℕ} {vals x : List Float} (a : Takes rows vals x) (g : tight rows ≡ true) {r : ℕ} (e : r ≡ getD rows 0 0) where
-  pub run-within : r + length vals ≤ length x
-  run-within = omega (arith, tight-within rows (a .rise) g (length x) (a .below), a .alike)
-
-  pub run-alike : length vals ≡ length (part r (r + length vals) x)
-  run-alike = sym (length-part r (r + length vals) x run-within ∙ omega arith)
-
-  pub run-takes : (t : Float) {y : List Float} → y ≡ zipped (λ a v. sub binary64 a (mul binary64 v t)) (part r (r + length vals) x) vals → placed r (r + length vals) x y ≡ over (takeAt t) rows vals x
-  unfolding takeAt
-  run-takes t = over-tight (λ a v. sub binary64 a (mul binary64 v t)) nan (takeAt t) rows (a .rise) g r (r + length vals) e (λ z v y h. refl) vals (a .alike) x refl run-within
+pub run-takes : {rows : List ℕ} {vals : List Float} (x : List Float) → Entries (length x) rows vals × (rises rows ≡ true) → tight rows ≡ true → {r : ℕ} → r ≡ getD rows 0 0
+    → (t : Float) {y : List Float} → y ≡ zipped (λ a v. sub binary64 a (mul binary64 v t)) (part r (r + length vals) x) vals → placed r (r + length vals) x y ≡ over (takeAt t) rows vals x
+unfolding takeAt
+run-takes x a g e t = run-passes x a g e (λ a v. sub binary64 a (mul binary64 v t)) nan (takeAt t) (λ z v y h. refl)
 
 -- ---- what it leaves
 pub length-taken : (t : Float) (rows : List ℕ) (vals x : List Float) → length (over (takeAt t) rows vals x) ≡ length x
@@ -70,10 +46,6 @@ taken-other t (r ∷ rows) [] x i h = refl
 taken-other t (r ∷ rows) (v ∷ vals) x i h = taken-other t rows vals _ i (λ z l. h (suc z) (omega arith)) ∙ getD-set-other x r i _ nan (λ (e : i ≡ r). h 0 (omega arith) (sym e))
 
 -- ---- the definition's tests
-over-first : (f : ℕ → Float → List Float → List Float) (r : ℕ) (v : Float) (rows : List ℕ) (vals x : List Float) → over f (r ∷ rows) (v ∷ vals) x ≡ over f rows vals (f r v x)
-unfolding over
-over-first f r v rows vals x = refl
-
 module _ (j k : ℕ) (t : Float) where
   sub-take : (r : ℕ) (v : Float) (x : List Float) → j < r → r < k → subAt j k t r v x ≡ takeAt t r v x
   unfolding subAt takeAt

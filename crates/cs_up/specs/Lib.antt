@@ -1,3 +1,2 @@
 pub mod Up
 pub mod Steps
-pub mod Cases

@@ -46,12 +46,6 @@ pub record Loads (k : ℕ) (rows : List ℕ) (vals x : List Float) : Type 0 wher
   pub alike : length vals ≡ length rows
   pub rise : rises rows ≡ true
 
--- rows of L, to be taken from x
-pub record Takes (rows : List ℕ) (vals x : List Float) : Type 0 where
-  pub alike : length vals ≡ length rows
-  pub below : (z : ℕ) → z < length rows → getD rows z 0 < length x
-  pub rise : rises rows ≡ true
-
 -- column j of L from s to e, the next value of which goes to e
 pub record Reads (j s e : ℕ) (li : List ℕ) (lx x : List Float) : Type 0 where
   pub begun : s < e

@@ -1,19 +1,23 @@
 // Row k of L, column by column.
+ghost use mathlib.Core.Bool.{true};
 ghost use mathlib.Core.Path.{_≡_};
 ghost use Prim.Native.Nat.{_+_};
 ghost use lib.Ieee.{nan, binary64, sub, mul, div};
 ghost use lib.ListN.{length, getD, set};
 ghost use Rattle.lists.specs.Calls.{none};
+ghost use Rattle.lists.specs.Entries.{Entries};
 ghost use Rattle.lists.specs.Folds.{over};
+ghost use Rattle.lists.specs.Order.{rises};
 ghost use Rattle.lists.specs.Parts.{part};
 ghost use Rattle.lists.specs.Runs.{zipped};
-ghost use Rattle.cs_up.specs.Steps.{takeAt, held, goes, way, Takes, Reads, Rows, Rowed};
+ghost use Rattle.cs_up.specs.Steps.{takeAt, held, goes, way, Reads, Rows, Rowed};
+use lists::numbers::smaller;
 use lists::numbers::wide;
 use lists::tight::tight;
 
 // x(r) = x(r) - (value times t) for each of the rows r.
 fn take_rows(t: f64, rows: &[u32], vals: &[f64], x: &mut [f64])
-    requires { ⌜ Takes (now rows) (now vals) (now x) ⌝ }
+    requires { ⌜ Entries (length (now x)) (now rows) (now vals) ⌝ }
     ensures { λ _. ⌜ now (x .exit) ≡ over (takeAt t) (now (rows .entry)) (now (vals .entry)) (now (x .entry)) ⌝ }
 {
     let mut z = 0;
@@ -26,11 +30,11 @@ fn take_rows(t: f64, rows: &[u32], vals: &[f64], x: &mut [f64])
 
 // The same, place by place.
 fn take_run(t: f64, vals: &[f64], x: &mut [f64])
-    requires { ⌜ length (now vals) ≡ length (now x) ⌝ }
     ensures { λ _. ⌜ now (x .exit) ≡ zipped (λ a v. sub binary64 a (mul binary64 v t)) (now (x .entry)) (now (vals .entry)) ⌝ }
 {
+    let n = smaller(vals.len(), x.len());
     let mut z = 0;
-    while z < vals.len() {
+    while z < n {
         x[z] = x[z] - vals[z] * t;
         z += 1;
     }
@@ -38,7 +42,7 @@ fn take_run(t: f64, vals: &[f64], x: &mut [f64])
 
 // The same as take_rows: a run is one part of x. Few rows gain nothing by it.
 fn take_column(t: f64, rows: &[u32], vals: &[f64], x: &mut [f64])
-    requires { ⌜ Takes (now rows) (now vals) (now x) ⌝ }
+    requires { ⌜ Entries (length (now x)) (now rows) (now vals) × (rises (now rows) ≡ true) ⌝ }
     ensures { λ _. ⌜ now (x .exit) ≡ over (takeAt t) (now (rows .entry)) (now (vals .entry)) (now (x .entry)) ⌝ }
 {
     if rows.len() > 7 {

@@ -10,8 +10,7 @@ use lib.Pow.{pow-pos, pow-lt, pow-mono, pow-add, shl-lt}
 use lib.Ieee.{Float, fin, binary64, up, down, round, fits}
 use lib.Ieee.Exact.{HasValue, round-exact}
 use lib.Ieee.Fits.{and-l, and-r, round-fits, down-pos, up-pos}
-use Rattle.lists.proofs.Bools.{le-or-lt}
-use mathlib.Core.Logic.{⊎-elim}
+use Rattle.float_bits.proofs.Powers.{pow-le-back}
 
 -- ---- what fits says of a value that is not zero
 pub record Fits (m : ℕ) (e : ℤ) : Type 0 where
@@ -63,13 +62,6 @@ unique m n (negsuc a) (negsuc b) o p h =
     suc-is h = omega arith
 
 -- ---- the value of the rounded one
--- 2 ^ k is at most 2 ^ l, so k is at most l
-under : (k l : ℕ) → 2 ^ k ≤ 2 ^ l → k ≤ l
-under k l h = ⊎-elim (λ (g : k ≤ l). g) (λ (g : l < k). absurd (not-lt (2 ^ l) (2 ^ k) (pow-lt g) h)) (le-or-lt k l)
-  where
-    not-lt : (a b : ℕ) → a < b → b ≤ a → ⊥
-    not-lt a b p q = omega arith
-
 value : (s : Bool) (m : ℕ) (e : ℤ) → Fits m e → HasValue (round binary64 s (suc m * up e) (down e)) s (suc m * up e) (down e)
 value s m (pos k) f = round-exact binary64 s (suc m * 2 ^ k) 1 (suc m) (k + 1074) (zero-lt-suc 0) (f .digits) fine same
   where
@@ -87,7 +79,7 @@ value s m (pos k) f = round-exact binary64 s (suc m * 2 ^ k) 1 (suc m) (k + 1074
 value s m (negsuc k) f = round-exact binary64 s (suc m * 1) (2 ^ suc k) (suc m) (1074 - suc k) (pow-pos (suc k)) (f .digits) fine same
   where
     small : suc k ≤ 1074
-    small = under (suc k) 1074 (f .least)
+    small = pow-le-back (suc k) 1074 (f .least)
 
     fine : suc m * 2 ^ (1074 - suc k) < 2 ^ (1074 + 1024)
     fine = bound (suc m * 2 ^ (1074 - suc k)) (2 ^ (53 + (1074 - suc k))) (2 ^ (1074 + 1024)) (shl-lt 53 (1074 - suc k) (f .digits)) (pow-mono {i = 53 + (1074 - suc k)} {j = 1074 + 1024} (omega arith))

@@ -66,6 +66,14 @@ mul-inf : (s t u : Bool) → mul binary64 (zeroOf s) (inf u) ≡ mul binary64 (z
 unfolding mul
 mul-inf s t u = refl
 
+-- what is alike at both zeros is alike
+alike-by : (op : Float → Float) → ((s t : Bool) → Alike (op (zeroOf s)) (op (zeroOf t))) → (x y : Float) → Alike x y → Alike (op x) (op y)
+alike-by op at x y h =
+    ⊎-elim
+    (λ (e : x ≡ y). inl (ap op e))
+    (λ (p : Zero x × Zero y). rw (p .0 .is, p .1 .is) (at (p .0 .sign) (p .1 .sign)))
+    h
+
 -- by an infinity or a NaN the result is NaN, whatever the sign
 mul-alike-at : (s t : Bool) (v : Float) → Alike (mul binary64 (zeroOf s) v) (mul binary64 (zeroOf t) v)
 mul-alike-at s t v = go v (λ h. inr (mul-at s v h, mul-at t v h))
@@ -76,11 +84,7 @@ mul-alike-at s t v = go v (λ h. inr (mul-at s v h, mul-at t v h))
     go (fin u n d) f = f refl
 
 pub mul-alike : (x y v : Float) → Alike x y → Alike (mul binary64 x v) (mul binary64 y v)
-mul-alike x y v h =
-    ⊎-elim
-    (λ (e : x ≡ y). inl (ap (λ (z : Float). mul binary64 z v) e))
-    (λ (p : Zero x × Zero y). rw (p .0 .is, p .1 .is) (mul-alike-at (p .0 .sign) (p .1 .sign) v))
-    h
+mul-alike x y v h = alike-by (λ z. mul binary64 z v) (λ s t. mul-alike-at s t v) x y h
 
 -- ---- the operations on finite values, by their parts
 div-fin : (s : Bool) (m : ℕ) (e : ℤ) (t : Bool) (n : ℕ) (d : ℤ)
@@ -147,11 +151,7 @@ div-alike-at s t (fin u zero e) = inl (div-none s t u e)
 div-alike-at s t (fin u (suc n) e) = inr (div-pos s u n e, div-pos t u n e)
 
 pub div-alike : (x y d : Float) → Alike x y → Alike (div binary64 x d) (div binary64 y d)
-div-alike x y d h =
-    ⊎-elim
-    (λ (e : x ≡ y). inl (ap (λ (z : Float). div binary64 z d) e))
-    (λ (p : Zero x × Zero y). rw (p .0 .is, p .1 .is) (div-alike-at (p .0 .sign) (p .1 .sign) d))
-    h
+div-alike x y d h = alike-by (λ z. div binary64 z d) (λ s t. div-alike-at s t d) x y h
 
 -- ---- a sum with a zero
 sum-left : (s t : Bool) (b c : ℕ) → 0 < b → sum binary64 s 0 t b c ≡ round binary64 t b c
@@ -256,10 +256,7 @@ left-alike s t (fin u (suc n) d) f = inl (left-own s u n d ∙ sym (left-own t u
 pub sub-alike : (x x' y y' : Float) → T (fits binary64 x') → T (fits binary64 y) → Alike x x' → Alike y y' → Alike (sub binary64 x y) (sub binary64 x' y')
 sub-alike x x' y y' fx fy h g =
     alike-trans (sub binary64 x y) (sub binary64 x' y) (sub binary64 x' y')
-    (⊎-elim
-    (λ (e : x ≡ x'). inl (ap (λ (u : Float). sub binary64 u y) e))
-    (λ (p : Zero x × Zero x'). rw (p .0 .is, p .1 .is) (left-alike (p .0 .sign) (p .1 .sign) y fy))
-    h)
+    (alike-by (λ z. sub binary64 z y) (λ s t. left-alike s t y fy) x x' h)
     (⊎-elim
     (λ (e : y ≡ y'). inl (ap (λ (u : Float). sub binary64 x' u) e))
     (λ (p : Zero y × Zero y'). alike-trans _ _ _ (sub-zero x' y fx (p .0)) (alike-sym _ _ (sub-zero x' y' fx (p .1))))

@@ -13,9 +13,10 @@ use lib.Seq.{take-all}
 use borrow.Author.Tests.{eq-eqb, ne-eqb, eqb-false}
 use Rattle.lists.specs.Calls.{lowest, none, onto, narrow, Scratch, Lent, lent, outputs}
 use Rattle.lists.proofs.Bools.{and-true, passed-over, eq-or-ne}
+use Rattle.lists.proofs.Calls.{left-done}
 use Rattle.lists.proofs.Passing.{lowest-none}
 use Rattle.lists.proofs.Places.{take-onto}
-use Rattle.cs_matrix.specs.Matrix.{Matrix, matrix, needed}
+use Rattle.cs_matrix.specs.Matrix.{Matrix, matrix, needed, judgedSquareMatrix}
 use Rattle.cs_tree.specs.Pattern.{Analysis, analysed, upper, lower, starts, entries}
 use Rattle.cs_tree.specs.Tree.{root}
 use Rattle.cs_tree.proofs.Count.{length-starts}
@@ -26,17 +27,18 @@ use Rattle.cs_pattern.specs.Compare.{startsWith, same, tight}
 use Rattle.cs_pattern.proofs.Columns.{length-columns}
 use Rattle.cs_pattern.proofs.Matching.{begins, starts-itself, starts-long, starts-at}
 use Rattle.cs_cholesky.specs.declared.Factored.{Factored}
-use Rattle.cs_cholesky.specs.Factor.{Outcome, factored as plain, judgedSquare, judgedFactor, answer, written}
+use Rattle.cs_cholesky.specs.Factor.{Outcome, factored as plain, judgedFactor, answer, written}
 use Rattle.cs_cholesky.proofs.Factoring.{factor-ends}
-use Rattle.cs_cholesky.proofs.Judging.{early-square}
+use Rattle.cs_matrix.proofs.Squaring.{early-matrix}
 use Rattle.cs_left.specs.Left.{leftStep, left, strays, number as leftNumber}
-use Rattle.cs_up.specs.Up.{upStep, up, number as upNumber}
+use Rattle.cs_up.specs.Up.{up, number as upNumber}
+use Rattle.cs_up.proofs.Calling.{up-ends}
 use Rattle.cs_solve.specs.declared.Solved.{Solved}
 use Rattle.job_prepare.specs.Prepare.{scratchRoom}
 use Rattle.job.specs.Run.{Result, answered, after, factoring, valuesRoom, factorNumber, factored, lowerMatrix, solved, run}
 use Rattle.job.specs.Steps.{heldMatrix, Prepared}
 use Rattle.job.proofs.Sizes.{left-long, up-long}
-use Rattle.job.proofs.Solving.{Owed, owed-stop, owed-go, done}
+use Rattle.job.proofs.Solving.{Owed, owed-stop, owed-go}
 
 -- ---- what a factoring comes to
 -- it ends with 0, or stops with 11
@@ -44,18 +46,14 @@ left-ends : (a : Matrix) → (left a .answer ≡ plain 0 0 none) ⊎ (left a .an
 unfolding left
 left-ends a = let cols = columns (a .pattern) in factor-ends (leftStep a (upper cols) (lower cols)) (a .pattern .ncols) 0 []
 
-up-ends : (a : Matrix) → (up a .answer ≡ plain 0 0 none) ⊎ (up a .answer .number ≡ 11)
-unfolding up
-up-ends a = let cols = columns (a .pattern) in factor-ends (upStep a (upper cols) (lower cols)) (a .pattern .ncols) 0 []
-
 -- where no number applies, 11 doesn't
 passed-judge : (a : Matrix) (g : Analysis) (m : ℕ) (w : Scratch) (ds : List (ℕ × Bool)) → lowest (judgedFactor a g m w ++ ds) ≡ 0 → lowest ds ≡ 0
 unfolding judgedFactor
 passed-judge a g m w ds z =
     let f = analysed (columns (a .pattern)) in
     let xs : List (ℕ × Bool) = (6, narrow (needed (a .pattern)) w) ∷ (7, tight m f) ∷ (8, not (same f g)) ∷ [] in
-    let e : lowest (judgedSquare a ++ (xs ++ ds)) ≡ 0 = sym (ap lowest (append-assoc (judgedSquare a) xs ds)) ∙ z in
-    let p = lowest-none (judgedSquare a) (xs ++ ds) (early-square a) e .1 in
+    let e : lowest (judgedSquareMatrix a ++ (xs ++ ds)) ≡ 0 = sym (ap lowest (append-assoc (judgedSquareMatrix a) xs ds)) ∙ z in
+    let p = lowest-none (judgedSquareMatrix a) (xs ++ ds) (early-matrix a) e .1 in
     let q = passed-over (narrow (needed (a .pattern)) w) 5 _ p in
     let r = passed-over (tight m f) 6 _ (q .1) in
     passed-over (not (same f g)) 7 _ (r .1) .1
@@ -122,7 +120,7 @@ judged-own : (a : Matrix) (g : Analysis) → same (analysed (columns (a .pattern
 unfolding judgedFactor
 judged-own a g e m w =
     let f = analysed (columns (a .pattern)) in
-    ap (λ (b : Bool). judgedSquare a ++ (6, narrow (needed (a .pattern)) w) ∷ (7, tight m f) ∷ (8, not b) ∷ []) (e ∙ sym (own f))
+    ap (λ (b : Bool). judgedSquareMatrix a ++ (6, narrow (needed (a .pattern)) w) ∷ (7, tight m f) ∷ (8, not b) ∷ []) (e ∙ sym (own f))
 
 number-own : (engine : ℕ) (a : Matrix) (g : Analysis) → same (analysed (columns (a .pattern))) g ≡ true → (old : Lent (List Float))
     → factorNumber engine a g old ≡ factorNumber engine a (analysed (columns (a .pattern))) old
@@ -223,7 +221,7 @@ module _ (a : Matrix) (g : Analysis) (q : Ready a g) where
       unfolding written
       lx-is =
           c .1
-          ∙ done (r .number) (written (entries (upper cols)) (factoring engine a) (replicate 2048 none)) (replicate 2048 none) z
+          ∙ left-done (r .number) (written (entries (upper cols)) (factoring engine a) (replicate 2048 none)) (replicate 2048 none) z
           ∙ ap (λ (t : Bool). onto (replicate 2048 none) (cond t (replicate (entries (upper cols)) none) (flatten (factoring engine a .columns))))
           (ne-eqb (factoring engine a .answer .number) 11 (λ h. omega (arith, all-passed, h)))
 

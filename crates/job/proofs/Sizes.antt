@@ -15,6 +15,7 @@ use Rattle.lists.specs.Calls.{none}
 use Rattle.lists.specs.Folds.{along, over}
 use Rattle.lists.specs.Order.{Once, no-more, one-more}
 use Rattle.lists.proofs.Bools.{le-or-lt}
+use Rattle.lists.proofs.Spots.{member-at}
 use Rattle.root.specs.Root.{rootOf}
 use Rattle.cs_matrix.specs.Matrix.{Matrix, column}
 use Rattle.cs_tree.specs.Least.{In, Promised}
@@ -27,6 +28,8 @@ use Rattle.cs_pattern.specs.Columns.{columns}
 use Rattle.cs_pattern.proofs.Columns.{length-columns, column-at}
 use Rattle.cs_cholesky.specs.Factor.{Step, Outcome, factored, factor}
 use Rattle.cs_left.specs.Left.{leftX, quotients, leftStep, left}
+use Rattle.cs_left.proofs.Columns.{length-quotients}
+use Rattle.cs_up.proofs.Loading.{puts-none}
 use Rattle.cs_up.specs.Up.{putAt, subAt, Way, rowAt, rowsAt, startAt, upStep, up}
 
 -- ---- lists of columns
@@ -65,10 +68,6 @@ unfolding factor
 ends step k done = refl
 
 -- ---- left: each column has as many values as L's has rows
-length-quotients : (d : Float) (rows : List ℕ) (x : List Float) → length (quotients d rows x) ≡ length rows
-unfolding quotients
-length-quotients d rows x = length-map rows (λ p. div binary64 (getD x p nan) d)
-
 left-column : (a : Matrix) (us ls : List (List ℕ)) (k : ℕ) (done : List (List Float))
     → length (flatten (leftStep a us ls k done .columns)) ≡ length (flatten done) + length (getD ls k [])
 unfolding leftStep
@@ -126,9 +125,6 @@ unfolding along below
 rows-more k ls [] s n = (n, omega arith)
 rows-more k ls (q ∷ us) s n = one-row k ls q us s n (λ t m. rows-more k ls us t m)
 
-append-one : {A : Type 0} (c : List A) (x : A) → length (c ++ (x ∷ [])) ≡ length c + 1
-append-one c x = length-append c (x ∷ [])
-
 last-one : (c : List (List Float)) (x : Float) → length (flatten (c ++ ((x ∷ []) ∷ []))) ≡ length (flatten c) + 1
 last-one c x = length-last c (x ∷ [])
 
@@ -139,7 +135,7 @@ up-column a us ls k done n =
     let w = rows-more k ls (getD us k []) (startAt a k done) n in
     let s : Way = along (goAt k ls) (getD us k []) (startAt a k done) in
     let d : Float = rootOf (s .pivot) in
-    (append-one (s .columns) (d ∷ []) ∙ ap (λ (m : ℕ). m + 1) (w .0), last-one (s .columns) d ∙ ap (λ (m : ℕ). m + 1) (w .1))
+    (length-append (s .columns) ((d ∷ []) ∷ []) ∙ ap (λ (m : ℕ). m + 1) (w .0), last-one (s .columns) d ∙ ap (λ (m : ℕ). m + 1) (w .1))
 
 -- U's column k has each number once, none above k, and k itself if any
 below-all : (k : ℕ) (us : List ℕ) → ((x : ℕ) → List·Memᴰ x us → x ≤ k) → ¬ List·Memᴰ k us → below k us ≡ length us
@@ -169,14 +165,6 @@ below-but-one k (q ∷ us) (one-more f o) h m =
     (List·Memᴰ·cases-cons m)
 
 -- where U's column k is empty nothing is put into x, and the pivot is +0.0
-none-put : (k : ℕ) (rows : List ℕ) (vals x : List Float) → ((i : ℕ) → List·Memᴰ i rows → k < i) → over (putAt k) rows vals x ≡ x
-unfolding over putAt
-none-put k [] vals x h = refl
-none-put k (i ∷ rows) [] x h = refl
-none-put k (i ∷ rows) (v ∷ vals) x h =
-    ap (over (putAt k) rows vals) (ap (λ (b : Bool). cond b (set x i v) x) (lt-leb i k (h i (List·Memᴰ·head refl))))
-    ∙ none-put k rows vals x (λ j m. h j (List·Memᴰ·tail m))
-
 not-above : lt none none ≡ false
 unfolding lt ofBits
 not-above = refl
@@ -186,7 +174,7 @@ pivot-none : (a : Matrix) (us ls : List (List ℕ)) (k : ℕ) (done : List (List
 unfolding upStep rowsAt startAt along
 pivot-none a us ls k done l e h =
     let n = a .pattern .ncols in
-    let x = none-put k (column (a .pattern .p) k (a .pattern .i)) (column (a .pattern .p) k (a .v)) (replicate n none) h in
+    let x = puts-none k (column (a .pattern .p) k (a .pattern .i)) (column (a .pattern .p) k (a .v)) (replicate n none) (λ z m. h (getD (column (a .pattern .p) k (a .pattern .i)) z 0) (member-at (column (a .pattern .p) k (a .pattern .i)) z m)) in
     ap (λ (u : List ℕ). along (goAt k ls) u (startAt a k done) .pivot) e ∙ ap (λ (y : List Float). getD y k nan) x ∙ getD-replicate n k none nan l
 
 module _ (a : Matrix) (small : a .pattern .ncols ≤ 65535) where

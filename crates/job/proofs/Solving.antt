@@ -7,6 +7,7 @@ use native.Mathlib.Omega.{arith}
 use lib.Ieee.{Float}
 use Rattle.lists.specs.Calls.{outputs}
 use Rattle.lists.specs.Choices.{firstOr, lastOr}
+use Rattle.lists.proofs.Calls.{left-done}
 use Rattle.cs_matrix.specs.Matrix.{Matrix}
 use Rattle.cs_solve.specs.declared.Solved.{Solved}
 use Rattle.cs_solve.specs.Judge.{lackingColumns, number, answer}
@@ -42,10 +43,6 @@ unfolding after
 last zero k x h = ap (λ (c : ℕ). record { number = 0; column = c }) (h refl)
 last (suc r) k x h = refl
 
-pub done : {A : Type 0} (r : ℕ) (w old : A) → r ≡ 0 → outputs r w old ≡ w
-unfolding outputs
-done r w old e = rw e
-
 module _ (l : Matrix) (b : List Float) {r : Solved} {b1 : List Float}
     (c : (r ≡ answer (number l b) (firstOr 0 (lackingColumns l))) × (b1 ≡ outputs (number l b) (forward l b) b)) where
   r-is : r ≡ forwardAnswer l b
@@ -67,7 +64,7 @@ module _ (l : Matrix) (b : List Float) {r : Solved} {b1 : List Float}
   -- the number of the solve is its answer's
   forward-is : r .number ≡ 0 → b1 ≡ forward l b
   unfolding answer
-  forward-is z = c .1 ∙ done (number l b) (forward l b) b (sym (ap (λ (s : Solved). s .number) (c .0)) ∙ z)
+  forward-is z = c .1 ∙ left-done (number l b) (forward l b) b (sym (ap (λ (s : Solved). s .number) (c .0)) ∙ z)
 
   pub solve-done : {s : Solved} {b2 : List Float} → r .number ≡ 0
       → (s ≡ answer (number l b1) (lastOr 0 (lackingColumns l))) × (b2 ≡ outputs (number l b1) (transposed l b1) b1) → Owed (solved l b) s b2
@@ -84,5 +81,5 @@ module _ (l : Matrix) (b : List Float) {r : Solved} {b1 : List Float}
         e ∙ last (t .number) (t .column) (transposed l y) k,
         λ n.
             let m : t .number ≡ 0 = sym (ap (λ (x : Solved). x .number) e) ∙ n in
-            g ∙ done (number l y) (transposed l y) y m ∙ sym (ap (λ (x : Result). x .x) (after-go (t .number) (t .column) (result 0 0 (transposed l y)) m)),
+            g ∙ left-done (number l y) (transposed l y) y m ∙ sym (ap (λ (x : Result). x .x) (after-go (t .number) (t .column) (result 0 0 (transposed l y)) m)),
       )

@@ -11,6 +11,7 @@ use lib.ListN.{length, take}
 use lib.Seq.{length-take-le}
 use borrow.Author.Tests.{lt-ltb, le-ltb, le-leb, lt-leb, eq-eqb, ne-eqb}
 use Rattle.lists.specs.Calls.{lowest}
+use Rattle.lists.proofs.Bools.{or-right}
 use Rattle.job_file.specs.declared.read.Head.{Head}
 use Rattle.job_file.specs.declared.record.Found.{Found}
 use Rattle.job_file.specs.Records.{SZ, EN, RH, GO, Wrong}
@@ -117,15 +118,11 @@ module _ (h : Head) (row : ℕ) where
       pub rh-sound : row < h .n → h .next ≤ row → (bits : ℕ) → Judged h (RH row bits) 0
       rh-sound c d bits = record { is = λ l p. sym (rh h l p row bits ∙ simp (eq-eqb (h .stage) 1 a, eq-eqb (h .entries) (h .count) b, lt-leb (h .n) row c, le-ltb row (h .next) d)) }
 
-or-holds : (a b : Bool) → b ≡ true → (a || b) ≡ true
-or-holds true b e = refl
-or-holds false b e = e
-
 module _ (h : Head) (engine : ℕ) where
   pub go-late : (h .stage ≡ 1 → ⊥) → Judged h (GO engine) 12
   go-late a =
       record {
-        is = λ l p. sym (go h l p engine ∙ simp (or-holds (not (eqb engine 1 || eqb engine 2)) (not (eqb (h .stage) 1 && eqb (h .entries) (h .count))) (simp (ne-eqb (h .stage) 1 a))));
+        is = λ l p. sym (go h l p engine ∙ simp (or-right (not (eqb engine 1 || eqb engine 2)) {b = not (eqb (h .stage) 1 && eqb (h .entries) (h .count))} (simp (ne-eqb (h .stage) 1 a))));
       }
 
   module _ (a : h .stage ≡ 1) where
@@ -137,7 +134,7 @@ module _ (h : Head) (engine : ℕ) where
               sym
               (go h l p engine
               ∙ simp
-              (or-holds (not (eqb engine 1 || eqb engine 2)) (not (eqb (h .stage) 1 && eqb (h .entries) (h .count))) (simp (eq-eqb (h .stage) 1 a, ne-eqb (h .entries) (h .count) b))));
+              (or-right (not (eqb engine 1 || eqb engine 2)) {b = not (eqb (h .stage) 1 && eqb (h .entries) (h .count))} (simp (eq-eqb (h .stage) 1 a, ne-eqb (h .entries) (h .count) b))));
         }
 
     module _ (b : h .entries ≡ h .count) where

@@ -12,6 +12,7 @@ use Rattle.job_file.specs.Little.{little}
 use Rattle.job_file.specs.Records.{Record, SZ, EN, RH, GO, Wrong, size, begins, first, records}
 use Rattle.job_file.specs.Faults.{Job, fault}
 use Rattle.job_file.specs.Reading.{empty, withEntry, taken, reads, readFile}
+use Rattle.lists.proofs.Parts.{drop-take}
 use Rattle.job_file.proofs.Meaning.{sz-means, en-means, rh-means, go-means, wrong-means}
 use Rattle.job_file.proofs.Walking.{one-by-one, some, reads-on, reads-stop}
 
@@ -22,12 +23,6 @@ little-take zero m l h = refl
 little-take (suc k) zero l h = absurd (omega arith)
 little-take (suc k) (suc m) [] h = refl
 little-take (suc k) (suc m) (b ∷ l) h = ap (λ (x : ℕ). b + 256 * x) (little-take k m l (omega arith))
-
-drop-take : (k m : ℕ) (l : List ℕ) → drop k (take m l) ≡ take (m - k) (drop k l)
-drop-take zero m l = let e : m - 0 ≡ m = omega arith in rw e
-drop-take (suc k) zero l = let e : 0 - suc k ≡ 0 = omega arith in rw e
-drop-take (suc k) (suc m) [] = sym (take-nil (suc m - suc k))
-drop-take (suc k) (suc m) (b ∷ l) = let e : suc m - suc k ≡ m - k = omega arith in rw e (drop-take k m l)
 
 field : (d k m : ℕ) (l : List ℕ) → d + k ≤ m → little k (drop d (take m l)) ≡ little k (drop d l)
 field d k m l h = ap (little k) (drop-take d m l) ∙ little-take k (m - d) (drop d l) (omega arith)

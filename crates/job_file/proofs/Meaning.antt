@@ -5,13 +5,9 @@ use Prim.Native.Nat.{ℕ, _≤_, _<_}
 use lib.Dec.{leb, ltb, eqb}
 use lib.ListN.{length}
 use borrow.Author.Tests.{eqb-true, eqb-false, ltb-false, leb-false}
-use Rattle.lists.proofs.Bools.{and-true, passed-over, or-false, not-holds}
+use Rattle.lists.proofs.Bools.{and-true, failed, passed-over, or-false, not-holds}
 use Rattle.job_file.specs.Records.{SZ, EN, RH, GO, Wrong}
 use Rattle.job_file.specs.Faults.{Job, fault, turn, malformed, oversized, outside, fallen, repeated, complete}
-
-not-true : (t : Bool) → not t ≡ true → t ≡ false
-not-true true e = sym e
-not-true false e = refl
 
 module _ (j : Job) where
   abbrev full : Bool
@@ -33,7 +29,7 @@ module _ (j : Job) where
       let q = passed-over (leb (j .n) row || leb (j .n) column) 3 _ (p .1) in
       let b = or-false (leb (j .n) row) (leb (j .n) column) (q .0) in (
         eqb-true (j .place .stage) 1 (a .0),
-        eqb-false (length (j .entries .rows)) (j .count) (not-true full (a .1)),
+        eqb-false (length (j .entries .rows)) (j .count) (failed {r = full} refl (a .1)),
         leb-false (j .n) row (b .0),
         leb-false (j .n) column (b .1),
       )

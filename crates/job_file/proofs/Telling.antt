@@ -8,6 +8,7 @@ use lib.Dec.{eqb}
 use lib.ListN.{length, drop, length-drop}
 use lib.Seq.{drop-drop}
 use borrow.Author.Tests.{le-leb, lt-leb, eq-eqb, ne-eqb}
+use Rattle.lists.proofs.Bools.{and-false}
 use Rattle.job_file.specs.Little.{little}
 use Rattle.job_file.specs.Records.{SZ, EN, RH, GO, Wrong, first, begins}
 
@@ -19,10 +20,6 @@ does mark long s e h = simp (eq-eqb (little 2 s) mark e, le-leb long (length s) 
 other : (mark long : ℕ) (s : List ℕ) → (little 2 s ≡ mark → ⊥) → begins mark long s ≡ false
 unfolding begins
 other mark long s n = simp (ne-eqb (little 2 s) mark n)
-
-and-false : (a : Bool) → (a && false) ≡ false
-and-false true = refl
-and-false false = refl
 
 short : (mark long : ℕ) (s : List ℕ) → length s < long → begins mark long s ≡ false
 unfolding begins

@@ -11,6 +11,7 @@ use lib.ListN.{length, getD, take, drop, replicate, length-append, length-drop, 
 use borrow.Author.Tests.{eq-eqb, ne-eqb}
 use Rattle.lists.specs.Calls.{lowest, none, onto, narrow, Scratch, scratch, Lent, lent, outputs, leaves as left}
 use Rattle.lists.proofs.Bools.{eq-or-ne}
+use Rattle.lists.proofs.Calls.{left-done}
 use Rattle.lists.proofs.Parts.{getD-onto-front}
 use Rattle.lists.proofs.Places.{take-onto}
 use Rattle.cs_matrix.specs.Matrix.{Pattern, pattern, Matrix, matrix, Stored, stored, written, short, needed, Valid, judgedSquare}
@@ -76,9 +77,6 @@ analysed-there n p i m f {new = new} {r = r} em et eu ei el ej e g =
     )
 
 -- ---- the two together
-pub done-outputs : {A : Type 0} (r : ℕ) (w old : A) → r ≡ 0 → outputs r w old ≡ w
-unfolding outputs
-done-outputs r w old e = rw e
 
 -- what was written to the front has room there
 fits : {A : Type 0} (d g l : List A) → l ≡ onto d g → length g ≤ length l
@@ -157,7 +155,7 @@ module _ (n : ℕ) (rows cols : List ℕ) (vals : List Float) (p i : List ℕ) (
   t = triplets n n rows cols vals
 
   is-written : stored p1 i1 v1 ≡ written (assembled t) (stored p i v)
-  is-written = c .1 ∙ done-outputs r (written (assembled t) (stored p i v)) (stored p i v) z
+  is-written = c .1 ∙ left-done r (written (assembled t) (stored p i v)) (stored p i v) z
 
   pub prepared-asks : (n < length p1) × (getD p1 n 0 ≤ length i1)
   prepared-asks = let q = written-asks n rows cols vals p i v p1 i1 v1 is-written (c .2 z) in (q .0, q .1)
@@ -216,11 +214,11 @@ module _ (t : Triplets) (old new : Outputs) (r : ℕ) (c : (r ≡ number t) × (
 
   pub done-matrix : new .matrix ≡ written (assembled t) (old .matrix)
   unfolding leaves
-  done-matrix = ap (λ (x : Outputs). x .matrix) (c .1) ∙ done-outputs (assembly t) (written (assembled t) (old .matrix)) (old .matrix) (both .0)
+  done-matrix = ap (λ (x : Outputs). x .matrix) (c .1) ∙ left-done (assembly t) (written (assembled t) (old .matrix)) (old .matrix) (both .0)
 
   pub done-analysis : new .analysis ≡ writtenAnalysis (analysed (columns (assembled t .pattern))) (old .analysis)
   unfolding leaves patternOf
   done-analysis =
       ap (λ (x : Outputs). x .analysis) (c .1)
       ∙ ap (λ (x : Bool). cond x (outputs (analysisOf (assembled t .pattern)) (writtenAnalysis (patternOf t) (old .analysis)) (old .analysis)) (old .analysis)) (eq-eqb (assembly t) 0 (both .0))
-      ∙ done-outputs (analysisOf (assembled t .pattern)) (writtenAnalysis (patternOf t) (old .analysis)) (old .analysis) (both .1)
+      ∙ left-done (analysisOf (assembled t .pattern)) (writtenAnalysis (patternOf t) (old .analysis)) (old .analysis) (both .1)

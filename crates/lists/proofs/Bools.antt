@@ -34,6 +34,10 @@ pub or-false : (a b : Bool) → (a || b) ≡ false → (a ≡ false) × (b ≡ f
 or-false true b h = absurd (true≢false h)
 or-false false b h = (refl, h)
 
+pub or-right : (a : Bool) {b : Bool} → b ≡ true → (a || b) ≡ true
+or-right true e = refl
+or-right false e = e
+
 pub or-none : (a : Bool) → (a || false) ≡ a
 or-none true = refl
 or-none false = refl
@@ -41,6 +45,17 @@ or-none false = refl
 pub not-holds : (b : Bool) → not b ≡ false → b ≡ true
 not-holds true h = refl
 not-holds false h = absurd (true≢false h)
+
+-- two tests that hold together, and two that fail together
+pub alike : (a b : Bool) → (a ≡ true → b ≡ true) → (b ≡ true → a ≡ true) → a ≡ b
+alike true b f g = sym (f refl)
+alike false true f g = g refl
+alike false false f g = refl
+
+pub alike-fails : (a b : Bool) → (a ≡ false → b ≡ false) → (b ≡ false → a ≡ false) → a ≡ b
+alike-fails false b f g = sym (f refl)
+alike-fails true false f g = g refl
+alike-fails true true f g = refl
 
 -- after `if !f(..) { return .. }`, with r the result of f and t what it ensures: where the branch was passed over, and where it was taken
 pub held : {r t : Bool} → r ≡ t → not r ≡ false → t ≡ true

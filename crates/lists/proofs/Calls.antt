@@ -76,10 +76,18 @@ lowest-both k (c ∷ cs) (d ∷ ds) h f g = go (c .1) (d .1) (lowest-both (suc k
     go false true e = rw (f .0, g .0) (two (lowest cs) (from-least (suc k) cs (f .1)))
     go false false e = e
 
--- ---- numbers from 1 to 6: by these nothing lent changes
+-- ---- the numbers are above 0 and below n
+abbrev pub Under : ℕ → List (ℕ × Bool) → Type 0
+Under n [] = 0 ≤ 0
+Under n (c ∷ cs) = (0 < c .0) × (c .0 < n) × Under n cs
+
+-- from 1 to 6: by these nothing lent changes
 abbrev pub Early : List (ℕ × Bool) → Type 0
-Early [] = 0 ≤ 0
-Early (c ∷ cs) = (0 < c .0) × (c .0 < 7) × Early cs
+Early cs = Under 7 cs
+
+pub under-both : (m n : ℕ) (cs ds : List (ℕ × Bool)) → m ≤ n → Under m cs → Under n ds → Under n (cs ++ ds)
+under-both m n [] ds l g h = h
+under-both m n (c ∷ cs) ds l g h = (g .0, omega (arith, g .1), under-both m n cs ds l (g .2) h)
 
 -- the first of the judgements refuses, or it passes on to the others
 pub first : (cs ds : List (ℕ × Bool)) {r : ℕ} → r ≡ lowest cs → (r ≡ 0 → ⊥) → r ≡ lowest (cs ++ ds)
@@ -90,21 +98,27 @@ first (c ∷ cs) ds {r = r} e h = go (c .1) e (λ f. first cs ds f h)
     go true e f = e
     go false e f = f e
 
-pub then : (cs ds : List (ℕ × Bool)) {r : ℕ} → Early cs → r ≡ lowest cs → r ≡ 0 → lowest ds ≡ lowest (cs ++ ds)
-then [] ds g e h = refl
-then (c ∷ cs) ds {r = r} g e h = go (c .1) e (λ f. then cs ds (g .2) f h)
+pub then-under : (n : ℕ) (cs ds : List (ℕ × Bool)) {r : ℕ} → Under n cs → r ≡ lowest cs → r ≡ 0 → lowest ds ≡ lowest (cs ++ ds)
+then-under n [] ds g e h = refl
+then-under n (c ∷ cs) ds {r = r} g e h = go (c .1) e (λ f. then-under n cs ds (g .2) f h)
   where
     go : (b : Bool) → r ≡ cond b (c .0) (lowest cs) → (r ≡ lowest cs → lowest ds ≡ lowest (cs ++ ds)) → lowest ds ≡ cond b (c .0) (lowest (cs ++ ds))
     go true e f = absurd (omega (arith, g .0))
     go false e f = f e
 
-pub below-7 : (cs : List (ℕ × Bool)) → Early cs → lowest cs < 7
-below-7 [] g = omega arith
-below-7 (c ∷ cs) g = go (c .1) (below-7 cs (g .2))
+pub then : (cs ds : List (ℕ × Bool)) {r : ℕ} → Early cs → r ≡ lowest cs → r ≡ 0 → lowest ds ≡ lowest (cs ++ ds)
+then cs ds g e h = then-under 7 cs ds g e h
+
+pub lowest-under : (n : ℕ) (cs : List (ℕ × Bool)) → 0 < n → Under n cs → lowest cs < n
+lowest-under n [] h g = h
+lowest-under n (c ∷ cs) h g = go (c .1) (lowest-under n cs h (g .2))
   where
-    go : (b : Bool) → lowest cs < 7 → cond b (c .0) (lowest cs) < 7
+    go : (b : Bool) → lowest cs < n → cond b (c .0) (lowest cs) < n
     go true l = g .1
     go false l = l
+
+pub below-7 : (cs : List (ℕ × Bool)) → Early cs → lowest cs < 7
+below-7 cs g = lowest-under 7 cs (omega arith) g
 
 -- ---- what each number leaves
 -- by 1 to 6 all is as it was
@@ -170,6 +184,10 @@ wiped-each n s a b c d = λ k. record { w1 = a k; w2 = b k; w3 = c k; x = d k }
 pub left-alone : {Out : Type 0} (r : ℕ) (w old : Out) → (r ≡ 0 → ⊥) → (r ≡ 11 → ⊥) → old ≡ outputs r w old
 unfolding outputs
 left-alone r w old g h = rw (ne-eqb r 0 g, ne-eqb r 11 h)
+
+pub left-done : {Out : Type 0} (r : ℕ) (w old : Out) → r ≡ 0 → outputs r w old ≡ w
+unfolding outputs
+left-done r w old e = rw e
 
 pub left-written : {Out : Type 0} (w old : Out) {new : Out} → new ≡ w → new ≡ outputs 0 w old
 unfolding outputs

@@ -5,7 +5,7 @@ use mathlib.Core.Logic.{_⊎_, ⊎-elim}
 use Prim.Native.Nat.{ℕ, zero, suc, _+_, _≤_, _<_}
 use native.Mathlib.Numerals.{add-one}
 use native.Mathlib.Omega.{arith}
-use lib.ListN.{length, getD, set, length-set}
+use lib.ListN.{length, getD, set, replicate, length-set}
 use Rattle.lists.specs.Calls.{cleared}
 
 module _ {A : Type 0} (z : A) where
@@ -28,6 +28,19 @@ module _ {A : Type 0} (z : A) where
   cleared-rest (suc n) [] k h = refl
   cleared-rest (suc n) (x ∷ l) zero h = absurd (omega arith)
   cleared-rest (suc n) (x ∷ l) (suc k) h = cleared-rest n l k (omega arith)
+
+  pub cleared-at : (n : ℕ) (l : List A) (k : ℕ) (d : A) → k < n → k < length l → getD (cleared z n l) k d ≡ z
+  unfolding cleared
+  cleared-at zero l k d h g = absurd (omega arith)
+  cleared-at (suc n) [] k d h g = absurd (omega arith)
+  cleared-at (suc n) (x ∷ l) zero d h g = refl
+  cleared-at (suc n) (x ∷ l) (suc k) d h g = cleared-at n l k d (omega arith) (omega arith)
+
+  -- a whole list
+  pub cleared-all : (l : List A) → cleared z (length l) l ≡ replicate (length l) z
+  unfolding cleared
+  cleared-all [] = refl
+  cleared-all (x ∷ l) = ap (λ (t : List A). z ∷ t) (cleared-all l)
 
   -- two lists that differ in the first n places only
   pub cleared-same : (n : ℕ) (l d : List A) → length l ≡ length d → ((q : ℕ) → n ≤ q → getD l q z ≡ getD d q z) → cleared z n l ≡ cleared z n d

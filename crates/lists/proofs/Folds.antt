@@ -174,6 +174,10 @@ module _ {A S : Type 0} (f : A → S → S) (l : List A) where
       nothing = refl
 
 -- ---- over: the same for two lists side by side
+pub over-first : {A B S : Type 0} (f : A → B → S → S) (a : A) (b : B) (l : List A) (m : List B) (s : S) → over f (a ∷ l) (b ∷ m) s ≡ over f l m (f a b s)
+unfolding over
+over-first f a b l m s = refl
+
 module _ {A B S : Type 0} (f : A → B → S → S) (l : List A) (m : List B) where
   pub record Over (s₀ s : S) (k : ℕ) : Type 0 where
     pub within : k ≤ length l

@@ -29,5 +29,6 @@ pub mod HowMany
 pub mod Onces
 pub mod Kept
 pub mod Runs
+pub mod Entries
 pub mod Positions
 pub mod Standing

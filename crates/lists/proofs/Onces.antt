@@ -14,7 +14,8 @@ use Rattle.lists.specs.Order.{lists, Once, no-more, one-more}
 use Rattle.lists.proofs.Bools.{eq-or-ne, not-both, or-none, and-none, and-false}
 use Rattle.lists.proofs.Chosen.{chosen-alike}
 use Rattle.lists.proofs.Members.{lists-same, lists-other, lists-append, listed-or-not}
-use Rattle.lists.proofs.Skipping.{lists-nowhere, getD-member}
+use Rattle.lists.proofs.Skipping.{lists-nowhere}
+use Rattle.lists.proofs.Positions.{once-apart}
 
 -- ---- one more behind
 pub lists-snoc : (r : ℕ) (l : List ℕ) (x : ℕ) → lists r (l ++ (x ∷ [])) ≡ (lists r l || eqb r x)
@@ -54,12 +55,6 @@ pub once-drop : (k : ℕ) {l : List ℕ} → Once l → Once (drop k l)
 once-drop k {l} o = once-right (take k l) (drop k l) (rw (take-append-drop k l) o)
 
 -- ---- place by place
-once-apart : {l : List ℕ} → Once l → (i k : ℕ) → i < k → k < length l → getD l i 0 ≡ getD l k 0 → ⊥
-once-apart no-more i k h g e = omega arith
-once-apart (one-more n o) i zero h g e = omega arith
-once-apart (one-more {xs = l} n o) zero (suc k) h g e = n (rw e (getD-member l k (omega arith)))
-once-apart (one-more n o) (suc i) (suc k) h g e = once-apart o i k (omega arith) (omega arith) e
-
 pub once-new : {l : List ℕ} → Once l → (k : ℕ) → k < length l → lists (getD l k 0) (take k l) ≡ false
 once-new {l} o k h =
     lists-nowhere (getD l k 0) (take k l)

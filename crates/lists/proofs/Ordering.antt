@@ -13,6 +13,16 @@ use borrow.Author.Tests.{lt-ltb, ltb-true, eq-eqb, eqb-true}
 use Rattle.lists.specs.Order.{rises, lists, Rising, flat, step, Once, no-more, one-more}
 use Rattle.lists.proofs.Folds.{every-at, every-all}
 
+-- numbers each no larger than the next are no larger than each later one
+pub steps-climb : (n : ℕ) (l : List ℕ) → ((r : ℕ) → r < n → getD l r 0 ≤ getD l (r + 1) 0) → (a b : ℕ) → a ≤ b → b ≤ n → getD l a 0 ≤ getD l b 0
+steps-climb n l s a zero h g = let e : a ≡ 0 = omega arith in rw e (omega arith)
+steps-climb n l s a (suc b) h g =
+    let m : getD l b 0 ≤ getD l (suc b) 0 = rw add-one at (s b g) in
+    ⊎-elim
+    (λ (e : a ≡ suc b). rw e (omega arith))
+    (λ (o : a < suc b). omega (arith, m, steps-climb n l s a b (omega arith) (omega arith)))
+    (eq-or-lt-of-le h)
+
 -- rows that rise are below each later one
 pub rises-apart : (l : List ℕ) → rises l ≡ true → (k q : ℕ) → k < q → q < length l → getD l k 0 < getD l q 0
 unfolding rises

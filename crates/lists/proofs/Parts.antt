@@ -31,17 +31,16 @@ module _ {A : Type 0} where
   pub getD-part : (a b : ℕ) (l : List A) (k : ℕ) (d : A) → k < b - a → getD (part a b l) k d ≡ getD l (a + k) d
   getD-part a b l k d h = getD-take (b - a) (drop a l) k d h ∙ getD-drop a l k d
 
-  drop-take : (a d : ℕ) (l : List A) → drop a (take (a + d) l) ≡ take d (drop a l)
-  drop-take zero d l = rw zero-add
-  drop-take (suc a) d [] = rw suc-add (sym (take-nil d))
-  drop-take (suc a) d (x ∷ l) = rw suc-add (drop-take a d l)
+  pub drop-take : (m n : ℕ) (l : List A) → drop m (take n l) ≡ take (n - m) (drop m l)
+  drop-take zero n l = let e : n - 0 ≡ n = omega arith in rw e refl
+  drop-take (suc m) zero l = let e : 0 - suc m ≡ 0 = omega arith in rw e refl
+  drop-take (suc m) (suc n) [] = sym (take-nil (suc n - suc m))
+  drop-take (suc m) (suc n) (x ∷ l) = let e : suc n - suc m ≡ n - m = omega arith in rw e (drop-take m n l)
 
   -- a part lies in every front that reaches over it
   pub part-take : (a b q : ℕ) (l : List A) → a ≤ b → b ≤ q → part a b (take q l) ≡ part a b l
   part-take a b q l h g =
-      let e : a + (q - a) ≡ q = omega arith in
-      let s = rw e at (drop-take a (q - a) l) in
-      rw (s, take-take (b - a) (q - a) (drop a l) (omega arith))
+      rw (drop-take a q l, take-take (b - a) (q - a) (drop a l) (omega arith))
 
   -- ---- a part that comes back
   pub length-placed : (a b : ℕ) (l ys : List A) → a ≤ b → b ≤ length l → length ys ≡ b - a → length (placed a b l ys) ≡ length l

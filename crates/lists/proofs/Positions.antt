@@ -11,6 +11,7 @@ use Rattle.lists.specs.Folds.{along, over}
 use Rattle.lists.specs.Order.{Once, no-more, one-more}
 use Rattle.lists.specs.Parts.{part}
 use Rattle.lists.proofs.Laying.{part-at}
+use Rattle.lists.proofs.Parts.{drop-take}
 use Rattle.lists.proofs.Spots.{member-at}
 
 -- ---- members
@@ -22,16 +23,6 @@ once-apart (one-more {x = x} {xs = xs} n o) (suc q) (suc r) h g e = once-apart o
 
 module _ {A : Type 0} where
   -- ---- parts
-  pub drop-take : (m n : ℕ) (l : List A) → drop m (take n l) ≡ take (n - m) (drop m l)
-  drop-take zero n l = let e : n - 0 ≡ n = omega arith in rw e refl
-  drop-take (suc m) zero l = let e : 0 - suc m ≡ 0 = omega arith in rw e refl
-  drop-take (suc m) (suc n) [] = sym (nil (suc n - suc m))
-    where
-      nil : (k : ℕ) → _≡_ {A = List A} (take k []) []
-      nil zero = refl
-      nil (suc k) = refl
-  drop-take (suc m) (suc n) (x ∷ l) = let e : suc n - suc m ≡ n - m = omega arith in rw e (drop-take m n l)
-
   pub part-drop : (a m e : ℕ) (l : List A) → part (a + m) e l ≡ drop m (part a e l)
   part-drop a m e l =
       let d : e - (a + m) ≡ (e - a) - m = omega arith in
@@ -47,7 +38,7 @@ module _ {A : Type 0} where
   flatten-last [] c = append-nil c
   flatten-last (u ∷ us) c = ap (λ (l : List A). u ++ l) (flatten-last us c) ∙ sym (append-assoc u (flatten us) c)
 
-  flatten-at : (us : List (List A)) (k : ℕ) → k < length us → flatten us ≡ flatten (take k us) ++ (getD us k [] ++ flatten (drop (suc k) us))
+  pub flatten-at : (us : List (List A)) (k : ℕ) → k < length us → flatten us ≡ flatten (take k us) ++ (getD us k [] ++ flatten (drop (suc k) us))
   unfolding flatten
   flatten-at [] k h = absurd (omega arith)
   flatten-at (c ∷ cs) zero h = refl

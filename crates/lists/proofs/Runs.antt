@@ -2,20 +2,22 @@
 -- the loop that makes that pass. Assumes nothing.
 use mathlib.Core.Path.{_≡_, refl, sym, ap, _∙_}
 use mathlib.Core.Bool.{true, false}
+use mathlib.Core.Logic.{_⊎_, ⊎-elim}
 use mathlib.Core.List.{List, [], _∷_, _++_, append-assoc}
-use Prim.Native.Nat.{ℕ, zero, suc, _+_, _-_, _≤_, _<_}
+use Prim.Native.Nat.{ℕ, zero, suc, _+_, _-_, _≤_, _<_, min}
 use native.Mathlib.Numerals.{add-one}
 use native.Mathlib.Omega.{arith}
 use lib.Dec.{ltb, eqb}
 use lib.ListN.{length, getD, set, take, drop, length-drop, length-append, take-append-drop}
 use lib.Seq.{length-take-le, take-all, set-at, getD-at, getD-drop}
 use borrow.Author.Tests.{ltb-true, lt-ltb, eqb-true}
+use Rattle.lists.specs.Calls.{onto}
 use Rattle.lists.specs.Folds.{over}
 use Rattle.lists.specs.Order.{rises}
 use Rattle.lists.specs.Parts.{part, placed}
 use Rattle.lists.specs.Runs.{run, tight, zipped}
 use Rattle.lists.specs.Tables.{from}
-use Rattle.lists.proofs.Bools.{and-true}
+use Rattle.lists.proofs.Bools.{and-true, le-or-lt}
 use Rattle.lists.proofs.Ordering.{rises-apart, rises-all}
 use Rattle.lists.proofs.Parts.{length-part, getD-part}
 
@@ -110,26 +112,48 @@ module _ {A B : Type 0} (op : A → B → A) where
   zipped-more d e zero (x ∷ xs) (v ∷ vs) h g = ap (λ (t : List A). op x v ∷ t) (sym (zipped-none xs))
   zipped-more d e (suc k) (x ∷ xs) (v ∷ vs) h g = ap (λ (t : List A). op x v ∷ t) (zipped-more d e k xs vs (omega arith) (omega arith))
 
-  -- ---- the loop: y is done as far as the first k values go
-  pub record Zipping (vs : List B) (y₀ y : List A) (k : ℕ) : Type 0 where
-    pub alike : length vs ≡ length y₀
+  -- values past the last element change nothing
+  zipped-past : (k : ℕ) (xs : List A) (vs : List B) → length xs ≤ k → zipped op xs (take k vs) ≡ zipped op xs vs
+  unfolding zipped
+  zipped-past k [] vs h = refl
+  zipped-past zero (x ∷ xs) vs h = absurd (omega arith)
+  zipped-past (suc k) (x ∷ xs) [] h = refl
+  zipped-past (suc k) (x ∷ xs) (v ∷ vs) h = ap (λ (t : List A). op x v ∷ t) (zipped-past k xs vs (omega arith))
+
+  -- ---- the loop over the n places that both have: y is done as far as the first k values go
+  pub record Zipping (vs : List B) (y₀ : List A) (n : ℕ) (y : List A) (k : ℕ) : Type 0 where
+    pub most : n ≡ min (length vs) (length y₀)
     pub is : y ≡ zipped op y₀ (take k vs)
 
-  pub zipping-start : {vs : List B} {y : List A} → length vs ≡ length y → Zipping vs y y 0
-  zipping-start {y = y} e = record { alike = e; is = sym (zipped-none y) }
+  pub zipping-start : {vs : List B} {y : List A} {n : ℕ} → n ≡ min (length vs) (length y) → Zipping vs y n y 0
+  zipping-start {y = y} e = record { most = e; is = sym (zipped-none y) }
 
-  module _ {vs : List B} {y₀ y : List A} {k : ℕ} (w : Zipping vs y₀ y k) where
+  module _ {vs : List B} {y₀ : List A} {n : ℕ} {y : List A} {k : ℕ} (w : Zipping vs y₀ n y k) where
     pub zipping-long : length y ≡ length y₀
     zipping-long = ap length (w .is) ∙ length-zipped y₀ (take k vs)
 
-    pub zipping-place : k < length vs → k < length y
-    zipping-place h = omega (arith, w .alike, zipping-long)
+    pub zipping-value : k < n → k < length vs
+    zipping-value h = omega (arith, w .most)
 
-    pub zipping-turn : (d : A) (e : B) → k < length vs → Zipping vs y₀ (set y k (op (getD y k d) (getD vs k e))) (k + 1)
-    zipping-turn d e h = record { alike = w .alike; is = rw (w .is, add-one) (zipped-more d e k y₀ vs (omega (arith, w .alike)) h) }
+    pub zipping-place : k < n → k < length y
+    zipping-place h = omega (arith, w .most, zipping-long)
 
-    pub zipping-done : length vs ≤ k → y ≡ zipped op y₀ vs
-    zipping-done h = w .is ∙ ap (zipped op y₀) (take-all k vs h)
+    pub zipping-turn : (a : A) (b : B) → k < n → Zipping vs y₀ n (set y k (op (getD y k a) (getD vs k b))) (k + 1)
+    zipping-turn a b h = record { most = w .most; is = rw (w .is, add-one) (zipped-more a b k y₀ vs (omega (arith, w .most)) (omega (arith, w .most))) }
+
+    pub zipping-done : n ≤ k → y ≡ zipped op y₀ vs
+    zipping-done h = w .is ∙ either (le-or-lt (length vs) (length y₀))
+      where
+        either : (length vs ≤ length y₀) ⊎ (length y₀ < length vs) → zipped op y₀ (take k vs) ≡ zipped op y₀ vs
+        either = ⊎-elim (λ (l : length vs ≤ length y₀). ap (zipped op y₀) (take-all k vs (omega (arith, w .most)))) (λ (l : length y₀ < length vs). zipped-past k y₀ vs (omega (arith, w .most)))
+
+module _ {A : Type 0} where
+  -- a copy
+  pub zipped-values : (xs vs : List A) → length vs ≤ length xs → zipped (λ _ v. v) xs vs ≡ onto xs vs
+  unfolding zipped onto
+  zipped-values xs [] h = zipped-none (λ _ v. v) xs
+  zipped-values [] (v ∷ vs) h = absurd (omega arith)
+  zipped-values (x ∷ xs) (v ∷ vs) h = ap (λ (t : List A). v ∷ t) (zipped-values xs vs (omega arith))
 
 -- ---- a step at each row of a run
 module _ {A B : Type 0} (op : A → B → A) (d : A) (step : ℕ → B → List A → List A) where

@@ -42,8 +42,3 @@ pub lists-nowhere : (x : ℕ) (l : List ℕ) → ((k : ℕ) → k < length l →
 unfolding lists
 lists-nowhere x [] h = refl
 lists-nowhere x (y ∷ l) h = lists-other x y l (λ e. h 0 (omega arith) (sym e)) ∙ lists-nowhere x l (λ k m. h (suc k) (omega arith))
-
-pub getD-member : (l : List ℕ) (k : ℕ) → k < length l → List·Memᴰ (getD l k 0) l
-getD-member [] k h = absurd (omega arith)
-getD-member (x ∷ l) zero h = List·Memᴰ·head refl
-getD-member (x ∷ l) (suc k) h = List·Memᴰ·tail (getD-member l k (omega arith))

@@ -8,3 +8,4 @@ pub mod Calls
 pub mod Choices
 pub mod Keeping
 pub mod Runs
+pub mod Entries

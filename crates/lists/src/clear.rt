@@ -1,16 +1,23 @@
-// Zeros in the front of a slice, and in the needed part of the scratch slices.
+// One number, or zeros, in the front of a slice, and zeros in the needed part of the scratch slices.
 ghost use mathlib.Core.Path.{_≡_};
 ghost use Rattle.lists.specs.Calls.{none, cleared, scratch, wiped, narrow};
+
+// x in the first n places, or in all where there are fewer.
+pub fn fill(x: u32, n: usize, out: &mut [u32])
+    ensures { λ _. ⌜ now (out .exit) ≡ cleared x n (now (out .entry)) ⌝ }
+{
+    let mut k = 0;
+    while k < n && k < out.len() {
+        out[k] = x;
+        k += 1;
+    }
+}
 
 // Zeros in the first n places, or in all where there are fewer.
 pub fn clear(n: usize, out: &mut [u32])
     ensures { λ _. ⌜ now (out .exit) ≡ cleared 0 n (now (out .entry)) ⌝ }
 {
-    let mut k = 0;
-    while k < n && k < out.len() {
-        out[k] = 0;
-        k += 1;
-    }
+    fill(0, n, out);
 }
 
 // +0.0 in the first n places, or in all where there are fewer.

@@ -2,5 +2,6 @@
 pub mod clear;
 pub mod numbers;
 pub mod order;
+pub mod sides;
 pub mod sums;
 pub mod tight;

@@ -14,18 +14,13 @@ use lib.Ieee.Exact.{HasValue}
 use lib.Ieee.Fits.{down-pos, and-l, and-r}
 use lib.Ieee.Positive.{positive, first-pos}
 use borrow.Author.Tests.{leb-true, leb-false, le-leb, lt-leb}
+use Rattle.float_bits.proofs.Powers.{pow-back, pow-le-back}
 use Rattle.root.specs.Root.{count, significand, radicand, rounded, rootAt, positiveRoot, rootOf}
 
 -- ---- powers of two
 
 pow-eq : {a b : ℕ} → a ≡ b → 2 ^ a ≡ 2 ^ b
 pow-eq e = ap (λ (n : ℕ). 2 ^ n) e
-
-pub pow-back : (i p : ℕ) → 2 ^ i < 2 ^ p → i < p
-pow-back i p h = lt-of-not-le (λ (g : p ≤ i). lt-irrefl (2 ^ i) (lt-of-lt-of-le h (pow-mono g)))
-
-pow-le-back : (i p : ℕ) → 2 ^ i ≤ 2 ^ p → i ≤ p
-pow-le-back i p h = omega (arith, pow-back i (suc p) (lt-of-le-of-lt h (pow-lt {i = p} {j = suc p} (omega arith))))
 
 size-exact : (i n : ℕ) → 2 ^ i ≤ n → n < 2 ^ suc i → size n ≡ suc i
 size-exact i n lo hi = le-antisymm (size-le n (suc i) hi) (pow-back i (size n) (lt-of-le-of-lt lo (size-lt n)))

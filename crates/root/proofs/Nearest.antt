@@ -13,9 +13,10 @@ use lib.Ieee.Digits.{size-lt, size-reaches}
 use lib.Ieee.Exact.{HasValue, odd-sign}
 use lib.Ieee.Positive.{positive, positive-of-value, value-pos}
 use borrow.Author.Tests.{leb-true, leb-false}
+use Rattle.float_bits.proofs.Powers.{pow-back}
 use Rattle.root.specs.Root.{Largest, wholeRoot, nearer, rounded, count, rootOf}
 use Rattle.root.specs.Nearest.{square, Significands, Closest, Nearest}
-use Rattle.root.proofs.Counts.{pow-back, shift, count-of, Shifted, shifted, value, Scaled, least, most, under-root, root-of, positive-root-is}
+use Rattle.root.proofs.Counts.{shift, count-of, Shifted, shifted, value, Scaled, least, most, under-root, root-of, positive-root-is}
 
 -- ---- squares
 

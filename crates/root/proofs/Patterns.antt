@@ -16,7 +16,8 @@ use borrow.Author.Tests.{leb-true, leb-false, lt-leb, le-leb, ne-eqb, le-ltb, lt
 use Rattle.float_bits.proofs.Nans.{is-nan}
 use Rattle.root.specs.Root.{rounded, positiveRoot, rootOf, rootBits}
 use Rattle.root.specs.Nearest.{Nearest, Patterns}
-use Rattle.root.proofs.Counts.{pow-back, count-lt, under-root, root-of, no-root-of}
+use Rattle.float_bits.proofs.Powers.{pow-back}
+use Rattle.root.proofs.Counts.{count-lt, under-root, root-of, no-root-of}
 use Rattle.root.proofs.Nearest.{worked, root-nearest}
 
 -- ---- the fields of a pattern

@@ -7,7 +7,8 @@ use lib.Pow.{pow-add, shl-lt}
 use lib.Count.{leadingZeros, leading-top}
 use lib.Ieee.{binary64, toBits}
 use Rattle.root.specs.Root.{rounded, positiveRoot}
-use Rattle.root.proofs.Counts.{pow-back, shift, Scaled, most, under-root, positive-root-is}
+use Rattle.float_bits.proofs.Powers.{pow-back}
+use Rattle.root.proofs.Counts.{shift, Scaled, most, under-root, positive-root-is}
 use Rattle.root.proofs.Nearest.{wide, rounded-range}
 use Rattle.root.proofs.Patterns.{written}
 

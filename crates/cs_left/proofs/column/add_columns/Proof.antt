@@ -1,3 +1,4 @@
+-- `add_columns` meets its contract. Assumes nothing.
 use mathlib.Core.Logic.{⊎-elim}
 use native.Mathlib.Omega.{arith}
 use lib.ListN.{length}
@@ -6,10 +7,6 @@ use Rattle.cs_left.proofs.Crossing.{Adding, adding-start, adding-here, 
 use borrow.Author.Needs.{needs}
 use Rattle.cs_left.proofs.column.add_columns.Statement.{statement}
 use Rattle.cs_left.proofs.column.add_columns.Tie as tie
-use Rattle.cs_left.proofs.column.add_columns.Reads as reads
-use Rattle.cs_left.proofs.column.add_columns.Lts as lts
-use Rattle.cs_left.proofs.column.scatter_add.Reads as scatter-add-reads
-use Rattle.lists.proofs.numbers.wide.Reads as wide-reads
 
 abbrev Inv-loop : tie.InvT-loop
 Inv-loop k us lp li lx next₀ x₀ q₀ next x q = Adding k us lp li lx next₀ x₀ next x q
@@ -17,131 +14,99 @@ Inv-loop k us lp li lx next₀ x₀ q₀ next x q = Adding k us lp li lx next₀
 abbrev μ-loop : tie.MeasureT-loop
 μ-loop k us lp li lx next₀ x₀ q₀ next x q = length us - q
 
--- src/column.rt:44:5
 loop-holds : tie.Need-loop-holds Inv-loop μ-loop
 loop-holds c = adding-start (c .before .before .before .before .before .before .pre)
 
--- src/column.rt:45:22
 mul-wide : tie.Need-mul-wide Inv-loop μ-loop
 mul-wide c = search needs
 
--- src/column.rt:45:22
 shared-slice-read-wide : tie.Need-shared-slice-read-wide Inv-loop μ-loop
 shared-slice-read-wide c = search needs
 
--- src/column.rt:45:13
 wide-requires : tie.Need-wide-requires Inv-loop μ-loop
 wide-requires c κs = search needs
 
--- src/column.rt:47:26
 mul-wide-2 : tie.Need-mul-wide-2 Inv-loop μ-loop
 mul-wide-2 c = search needs
 
--- src/column.rt:47:26
 slice-read-wide : tie.Need-slice-read-wide Inv-loop μ-loop
 slice-read-wide c = adding-here (c .before .before .before .before .before .loop .inv) (c .before .before .before .before .loop-test .taken) (c .before .before .wide .ensures .0) (c .before .if1 .taken) .place
 
--- src/column.rt:47:17
 wide-requires-2 : tie.Need-wide-requires-2 Inv-loop μ-loop
 wide-requires-2 c κs = search needs
 
--- src/column.rt:48:29
 add-wide : tie.Need-add-wide Inv-loop μ-loop
 add-wide c = search needs
 
--- src/column.rt:48:26
 mul-wide-3 : tie.Need-mul-wide-3 Inv-loop μ-loop
 mul-wide-3 c = search needs
 
--- src/column.rt:48:26
 shared-slice-read-wide-2 : tie.Need-shared-slice-read-wide-2 Inv-loop μ-loop
 shared-slice-read-wide-2 c = adding-here (c .before .before .before .before .before .before .before .loop .inv) (c .before .before .before .before .before .before .loop-test .taken) (c .before .before .before .before .wide .ensures .0) (c .before .before .before .if1 .taken) .pointer
 
--- src/column.rt:48:17
 wide-requires-3 : tie.Need-wide-requires-3 Inv-loop μ-loop
 wide-requires-3 c κs = search needs
 
--- src/column.rt:49:25
 mul-scatter-add : tie.Need-mul-scatter-add Inv-loop μ-loop
 mul-scatter-add c = search needs
 
--- src/column.rt:49:25
 sub-scatter-add : tie.Need-sub-scatter-add Inv-loop μ-loop
 sub-scatter-add c = crossing-order (adding-here (c .before .before .before .before .before .before .before .before .loop .inv) (c .before .before .before .before .before .before .before .loop-test .taken) (c .before .before .before .before .before .wide .ensures .0) (c .before .before .before .before .if1 .taken)) (c .before .before .wide2 .ensures .0) (c .wide3 .ensures .0)
 
--- src/column.rt:49:25
 part-scatter-add-start : tie.Need-part-scatter-add-start Inv-loop μ-loop
 part-scatter-add-start c = crossing-order (adding-here (c .before .before .before .before .before .before .before .before .loop .inv) (c .before .before .before .before .before .before .before .loop-test .taken) (c .before .before .before .before .before .wide .ensures .0) (c .before .before .before .before .if1 .taken)) (c .before .before .wide2 .ensures .0) (c .wide3 .ensures .0)
 
--- src/column.rt:49:25
 part-scatter-add-end : tie.Need-part-scatter-add-end Inv-loop μ-loop
 part-scatter-add-end c = crossing-li (adding-here (c .before .before .before .before .before .before .before .before .loop .inv) (c .before .before .before .before .before .before .before .loop-test .taken) (c .before .before .before .before .before .wide .ensures .0) (c .before .before .before .before .if1 .taken)) (c .before .before .wide2 .ensures .0) (c .wide3 .ensures .0)
 
--- src/column.rt:49:36
 mul-scatter-add-2 : tie.Need-mul-scatter-add-2 Inv-loop μ-loop
 mul-scatter-add-2 c = search needs
 
--- src/column.rt:49:36
 sub-scatter-add-2 : tie.Need-sub-scatter-add-2 Inv-loop μ-loop
 sub-scatter-add-2 c = crossing-order (adding-here (c .before .before .before .before .before .before .before .before .before .loop .inv) (c .before .before .before .before .before .before .before .before .loop-test .taken) (c .before .before .before .before .before .before .wide .ensures .0) (c .before .before .before .before .before .if1 .taken)) (c .before .before .before .wide2 .ensures .0) (c .before .wide3 .ensures .0)
 
--- src/column.rt:49:36
 part-scatter-add-start-2 : tie.Need-part-scatter-add-start-2 Inv-loop μ-loop
 part-scatter-add-start-2 c = crossing-order (adding-here (c .before .before .before .before .before .before .before .before .before .loop .inv) (c .before .before .before .before .before .before .before .before .loop-test .taken) (c .before .before .before .before .before .before .wide .ensures .0) (c .before .before .before .before .before .if1 .taken)) (c .before .before .before .wide2 .ensures .0) (c .before .wide3 .ensures .0)
 
--- src/column.rt:49:36
 part-scatter-add-end-2 : tie.Need-part-scatter-add-end-2 Inv-loop μ-loop
 part-scatter-add-end-2 c = crossing-lx (adding-here (c .before .before .before .before .before .before .before .before .before .loop .inv) (c .before .before .before .before .before .before .before .before .loop-test .taken) (c .before .before .before .before .before .before .wide .ensures .0) (c .before .before .before .before .before .if1 .taken)) (c .before .before .before .wide2 .ensures .0) (c .before .wide3 .ensures .0)
 
--- src/column.rt:49:48
 mul-scatter-add-3 : tie.Need-mul-scatter-add-3 Inv-loop μ-loop
 mul-scatter-add-3 c = search needs
 
--- src/column.rt:49:48
 shared-slice-read-scatter-add : tie.Need-shared-slice-read-scatter-add Inv-loop μ-loop
 shared-slice-read-scatter-add c = crossing-place (adding-here (c .before .before .before .before .before .before .before .before .before .before .before .loop .inv) (c .before .before .before .before .before .before .before .before .before .before .loop-test .taken) (c .before .before .before .before .before .before .before .before .wide .ensures .0) (c .before .before .before .before .before .before .before .if1 .taken)) (c .before .before .before .before .before .wide2 .ensures .0) (c .before .before .before .wide3 .ensures .0)
 
--- src/column.rt:49:13
 scatter-add-requires : tie.Need-scatter-add-requires Inv-loop μ-loop
 scatter-add-requires c κs = crossing-asks (adding-here (c .before .before .before .before .before .before .before .before .before .before .before .before .loop .inv) (c .before .before .before .before .before .before .before .before .before .before .before .loop-test .taken) (c .before .before .before .before .before .before .before .before .before .wide .ensures .0) (c .before .before .before .before .before .before .before .before .if1 .taken)) (c .before .before .before .before .before .before .wide2 .ensures .0) (c .before .before .before .before .wide3 .ensures .0)
 
--- src/column.rt:50:24
 add-next : tie.Need-add-next Inv-loop μ-loop
 add-next c = record { fits = omega (arith, crossing-fits (adding-here (c .before .before .before .before .before .before .before .before .before .before .before .before .before .before .before .loop .inv) (c .before .before .before .before .before .before .before .before .before .before .before .before .before .before .loop-test .taken) (c .before .before .before .before .before .before .before .before .before .before .before .before .wide .ensures .0) (c .before .before .before .before .before .before .before .before .before .before .before .if1 .taken)) (c .before .before .before .before .before .before .before .before .before .wide2 .ensures .0) (c .before .before .before .before .before .before .before .wide3 .ensures .0)) }
 
--- src/column.rt:50:23
 cast-next : tie.Need-cast-next Inv-loop μ-loop
 cast-next c = record { fits = omega (arith, crossing-fits (adding-here (c .before .before .before .before .before .before .before .before .before .before .before .before .before .before .before .loop .inv) (c .before .before .before .before .before .before .before .before .before .before .before .before .before .before .loop-test .taken) (c .before .before .before .before .before .before .before .before .before .before .before .before .wide .ensures .0) (c .before .before .before .before .before .before .before .before .before .before .before .if1 .taken)) (c .before .before .before .before .before .before .before .before .before .wide2 .ensures .0) (c .before .before .before .before .before .before .before .wide3 .ensures .0)) }
 
--- src/column.rt:50:13
 mul-next : tie.Need-mul-next Inv-loop μ-loop
 mul-next c = search needs
 
--- src/column.rt:50:13
 slice-write-next : tie.Need-slice-write-next Inv-loop μ-loop
 slice-write-next c = adding-here (c .before .before .before .before .before .before .before .before .before .before .before .before .before .before .before .loop .inv) (c .before .before .before .before .before .before .before .before .before .before .before .before .before .before .loop-test .taken) (c .before .before .before .before .before .before .before .before .before .before .before .before .wide .ensures .0) (c .before .before .before .before .before .before .before .before .before .before .before .if1 .taken) .place
 
--- src/column.rt:52:9
 add-q : tie.Need-add-q Inv-loop μ-loop
 add-q c = search needs
 
--- src/column.rt:44:5
 loop-less : tie.Need-loop-less Inv-loop μ-loop
 loop-less c = omega (arith, c .before .before .before .loop-test .taken)
 
--- src/column.rt:44:5
 loop-again : tie.Need-loop-again Inv-loop μ-loop
 loop-again c = let w = c .before .before .before .before .loop .inv in let g = c .before .before .before .loop-test .taken in let e = c .before .wide .ensures .0 in ⊎-elim (λ t. rw (t .12, t .13) (adding-turn w g e (t .0 .taken) (t .2 .ensures .0) (t .4 .ensures .0) (t .9 .kept .1 .1 .1 .0) (t .9 .ensures))) (λ u. rw (u .1, u .2) (adding-pass w g e (u .0 .left))) (c .if1 .came)
 
--- src/column.rt:38:1
 same-length : tie.Need-same-length Inv-loop μ-loop
 same-length c = c .before .loop .inv .next-long
 
--- src/column.rt:38:1
 same-length-2 : tie.Need-same-length-2 Inv-loop μ-loop
 same-length-2 c = c .before .loop .inv .x-long
 
--- src/column.rt:38:1
 returns : tie.Need-returns Inv-loop μ-loop
 returns c = adding-end (c .before .loop .inv) (c .loop-test .left)
 

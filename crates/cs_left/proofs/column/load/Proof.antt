@@ -1,15 +1,14 @@
+-- `load` meets its contract. Assumes nothing.
 use mathlib.Core.Logic.{⊎-elim}
 use native.Mathlib.Omega.{arith}
 use lib.ListN.{length}
 use Prim.Native.Nat.{_-_}
-use Rattle.cs_left.proofs.Columns.{Passing, passing-start, passing-row, passing-value, passing-end, load-put, load-pass}
+use Rattle.lists.proofs.Entries.{Passing, passing-start, passing-row, passing-value, passing-end}
+use Rattle.cs_left.proofs.Columns.{load-put, load-pass}
 use Rattle.cs_left.specs.Left.{putAt}
 use borrow.Author.Needs.{needs}
 use Rattle.cs_left.proofs.column.load.Statement.{statement}
 use Rattle.cs_left.proofs.column.load.Tie as tie
-use Rattle.cs_left.proofs.column.load.Reads as reads
-use Rattle.cs_left.proofs.column.load.Lts as lts
-use Rattle.lists.proofs.numbers.wide.Reads as wide-reads
 
 abbrev Inv-loop : tie.InvT-loop
 Inv-loop k rows vals x₀ q₀ x q = Passing (putAt k) rows vals x₀ x q
@@ -17,55 +16,42 @@ Inv-loop k rows vals x₀ q₀ x q = Passing (putAt k) rows vals x₀ x q
 abbrev μ-loop : tie.MeasureT-loop
 μ-loop k rows vals x₀ q₀ x q = length rows - q
 
--- src/column.rt:15:5
 loop-holds : tie.Need-loop-holds Inv-loop μ-loop
 loop-holds c = passing-start _ (c .before .before .before .pre)
 
--- src/column.rt:16:22
 mul-wide : tie.Need-mul-wide Inv-loop μ-loop
 mul-wide c = search needs
 
--- src/column.rt:16:22
 shared-slice-read-wide : tie.Need-shared-slice-read-wide Inv-loop μ-loop
 shared-slice-read-wide c = search needs
 
--- src/column.rt:16:13
 wide-requires : tie.Need-wide-requires Inv-loop μ-loop
 wide-requires c κs = search needs
 
--- src/column.rt:18:20
 mul-x : tie.Need-mul-x Inv-loop μ-loop
 mul-x c = search needs
 
--- src/column.rt:18:20
 shared-slice-read-x : tie.Need-shared-slice-read-x Inv-loop μ-loop
 shared-slice-read-x c = passing-value (c .before .before .before .before .before .loop .inv) (c .before .before .before .before .loop-test .taken)
 
--- src/column.rt:18:13
 mul-x-2 : tie.Need-mul-x-2 Inv-loop μ-loop
 mul-x-2 c = search needs
 
--- src/column.rt:18:13
 slice-write-x : tie.Need-slice-write-x Inv-loop μ-loop
 slice-write-x c = passing-row (c .before .before .before .before .before .loop .inv) (c .before .before .before .before .loop-test .taken) (c .before .before .wide .ensures .0)
 
--- src/column.rt:20:9
 add-q : tie.Need-add-q Inv-loop μ-loop
 add-q c = search needs
 
--- src/column.rt:15:5
 loop-less : tie.Need-loop-less Inv-loop μ-loop
 loop-less c = search needs
 
--- src/column.rt:15:5
 loop-again : tie.Need-loop-again Inv-loop μ-loop
 loop-again c = let w = c .before .before .before .before .loop .inv in let g = c .before .before .before .loop-test .taken in let e = c .before .wide .ensures .0 in ⊎-elim (λ t. rw (t .2) (load-put w g e (t .0 .taken))) (λ u. rw (u .1) (load-pass w g e (u .0 .left))) (c .if1 .came)
 
--- src/column.rt:10:1
 same-length : tie.Need-same-length Inv-loop μ-loop
 same-length c = c .before .loop .inv .long
 
--- src/column.rt:10:1
 returns : tie.Need-returns Inv-loop μ-loop
 returns c = passing-end (c .before .loop .inv) (c .loop-test .left)
 

@@ -1,6 +1,5 @@
 -- `seek`: the rows are met, and what is unmet is sought. Assumes nothing.
 use Rattle.cs_left.proofs.Straying.{sought-kept}
-use borrow.Author.Needs.{needs}
 use Rattle.cs_left.proofs.stray.seek.Statement.{statement}
 use Rattle.cs_left.proofs.stray.seek.Tie as tie
 

@@ -3,7 +3,6 @@ use Prim.Native.Nat.{_-_}
 use native.Mathlib.Omega.{arith}
 use Rattle.lists.proofs.Choices.{Upward, upward-start}
 use Rattle.cs_left.proofs.Straying.{strayAt, seeks-at, strays-found, strays-turn, strays-end}
-use borrow.Author.Needs.{needs}
 use Rattle.cs_left.proofs.stray.some_stray.Statement.{statement}
 use Rattle.cs_left.proofs.stray.some_stray.Tie as tie
 

@@ -1,25 +1,18 @@
+-- `check_square` meets its contract. Assumes nothing.
 use Rattle.cs_matrix.proofs.Squaring.{square-2, square-rest}
 use borrow.Author.Needs.{needs}
 use Rattle.cs_matrix.proofs.square.check_square.Statement.{statement}
 use Rattle.cs_matrix.proofs.square.check_square.Tie as tie
-use Rattle.cs_matrix.proofs.square.check_square.Reads as reads
-use Rattle.cs_matrix.proofs.square.check_square.Lts as lts
-use Rattle.cs_matrix.proofs.check.check_pattern.Reads as check-pattern-reads
-use Rattle.lists.proofs.numbers.lower.Reads as lower-reads
 
--- src/square.rt:19:9
 check-pattern-requires : tie.Need-check-pattern-requires
 check-pattern-requires c κs = search needs
 
--- src/square.rt:21:9
 lower-requires : tie.Need-lower-requires
 lower-requires c κs = search needs
 
--- src/square.rt:21:9
 returns : tie.Need-returns
 returns c = square-2 _ (c .before .before .check-pattern .ensures) (c .before .if1 .taken) (c .lower .ensures)
 
--- src/square.rt:16:1
 returns-2 : tie.Need-returns-2
 returns-2 c = square-rest _ (c .before .check-pattern .ensures) (c .if1 .left)
 

@@ -1,20 +1,21 @@
--- `add_rows`: the loop of proofs/Adding.antt. Assumes nothing.
+-- `add_rows`: the loop of lists/proofs/Entries.antt. Assumes nothing.
 use Prim.Native.Nat.{_-_}
 use native.Mathlib.Omega.{arith}
 use lib.ListN.{length}
 use borrow.Author.Needs.{needs}
-use Rattle.cs_product.proofs.Adding.{Adding, adding-start, adding-turn, adding-done, row-below, row-in, value-in}
+use Rattle.lists.specs.Entries.{plusAt}
+use Rattle.lists.proofs.Entries.{Passing, passing-start, passing-row, passing-value, passing-end, plus-turn}
 use Rattle.cs_product.proofs.plain.add_rows.Statement.{statement}
 use Rattle.cs_product.proofs.plain.add_rows.Tie as tie
 
 abbrev Inv-loop : tie.InvT-loop
-Inv-loop n beta rows vals x₀ k₀ k-end x k = Adding n beta rows vals x₀ x k
+Inv-loop beta rows vals x₀ k₀ k-end x k = Passing (plusAt beta) rows vals x₀ x k
 
 abbrev μ-loop : tie.MeasureT-loop
-μ-loop n beta rows vals x₀ k₀ k-end x k = length rows - k
+μ-loop beta rows vals x₀ k₀ k-end x k = length rows - k
 
 loop-holds : tie.Need-loop-holds Inv-loop μ-loop
-loop-holds c = adding-start _ _ _ _ (c .before .before .before .pre)
+loop-holds c = passing-start _ (c .before .before .before .pre)
 
 mul-wide : tie.Need-mul-wide Inv-loop μ-loop
 mul-wide c = search needs
@@ -26,22 +27,22 @@ wide-requires : tie.Need-wide-requires Inv-loop μ-loop
 wide-requires c κs = tt
 
 mul-x : tie.Need-mul-x Inv-loop μ-loop
-mul-x c = omega (arith, row-below _ _ _ _ (c .before .before .before .loop .inv) (c .before .before .loop-test .taken) (c .wide .ensures .0), (c .before .before .before .loop .inv .ask .small))
+mul-x c = search needs
 
 slice-read-x : tie.Need-slice-read-x Inv-loop μ-loop
-slice-read-x c = row-in _ _ _ _ (c .before .before .before .before .loop .inv) (c .before .before .before .loop-test .taken) (c .before .wide .ensures .0)
+slice-read-x c = passing-row (c .before .before .before .before .loop .inv) (c .before .before .before .loop-test .taken) (c .before .wide .ensures .0)
 
 mul-x-2 : tie.Need-mul-x-2 Inv-loop μ-loop
 mul-x-2 c = search needs
 
 shared-slice-read-x : tie.Need-shared-slice-read-x Inv-loop μ-loop
-shared-slice-read-x c = value-in _ _ _ _ (c .before .before .before .before .before .loop .inv) (c .before .before .before .before .loop-test .taken) (c .before .before .wide .ensures .0)
+shared-slice-read-x c = passing-value (c .before .before .before .before .before .loop .inv) (c .before .before .before .before .loop-test .taken)
 
 mul-x-3 : tie.Need-mul-x-3 Inv-loop μ-loop
-mul-x-3 c = omega (arith, row-below _ _ _ _ (c .before .before .before .before .before .loop .inv) (c .before .before .before .before .loop-test .taken) (c .before .before .wide .ensures .0), (c .before .before .before .before .before .loop .inv .ask .small))
+mul-x-3 c = search needs
 
 slice-write-x : tie.Need-slice-write-x Inv-loop μ-loop
-slice-write-x c = row-in _ _ _ _ (c .before .before .before .before .before .loop .inv) (c .before .before .before .before .loop-test .taken) (c .before .before .wide .ensures .0)
+slice-write-x c = passing-row (c .before .before .before .before .before .loop .inv) (c .before .before .before .before .loop-test .taken) (c .before .before .wide .ensures .0)
 
 add-k : tie.Need-add-k Inv-loop μ-loop
 add-k c = search needs
@@ -50,13 +51,13 @@ loop-less : tie.Need-loop-less Inv-loop μ-loop
 loop-less c = omega (arith, (c .before .before .before .before .loop-test .taken))
 
 loop-again : tie.Need-loop-again Inv-loop μ-loop
-loop-again c = adding-turn _ _ _ _ (c .before .before .before .before .before .loop .inv) (c .before .before .before .before .loop-test .taken) (c .before .before .wide .ensures .0)
+loop-again c = plus-turn _ (c .before .before .before .before .before .loop .inv) (c .before .before .before .before .loop-test .taken) (c .before .before .wide .ensures .0)
 
 same-length : tie.Need-same-length Inv-loop μ-loop
 same-length c = (c .before .loop .inv .long)
 
 returns : tie.Need-returns Inv-loop μ-loop
-returns c = adding-done _ _ _ _ (c .before .loop .inv) (c .loop-test .left)
+returns c = passing-end (c .before .loop .inv) (c .loop-test .left)
 
 pub add-rows-spec : {M : Type 1} → statement M
 add-rows-spec =

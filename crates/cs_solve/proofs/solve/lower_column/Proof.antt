@@ -2,7 +2,7 @@
 use mathlib.Core.Path.{refl, sym, _∙_}
 use native.Mathlib.Omega.{arith}
 use borrow.Author.Needs.{needs}
-use Rattle.cs_solve.proofs.Runs.{run-within, run-alike, run-lowers}
+use Rattle.cs_solve.proofs.Runs.{run-within, run-lowers}
 use Rattle.cs_solve.proofs.solve.lower_column.Statement.{statement}
 use Rattle.cs_solve.proofs.solve.lower_column.Tie as tie
 
@@ -58,7 +58,7 @@ part-lower-run-end-2 : tie.Need-part-lower-run-end-2
 part-lower-run-end-2 c = run-within (c .before .before .before .before .before .before .before .before .before .before .before .before .before .args .b .now) (c .before .before .before .before .before .before .before .before .before .before .before .before .before .pre .0) (c .before .before .before .before .before .before .before .before .before .before .before .before .before .pre .1) refl (omega (arith, c .before .before .before .before .before .before .before .before .before .if1 .taken)) (sym (c .before .before .before .before .tight .ensures) ∙ c .before .before .before .if3 .taken) (c .before .wide2 .ensures .0)
 
 lower-run-requires : tie.Need-lower-run-requires
-lower-run-requires c κs = run-alike (c .before .before .before .before .before .before .before .before .before .before .before .before .before .before .args .b .now) (c .before .before .before .before .before .before .before .before .before .before .before .before .before .before .pre .0) (c .before .before .before .before .before .before .before .before .before .before .before .before .before .before .pre .1) refl (omega (arith, c .before .before .before .before .before .before .before .before .before .before .if1 .taken)) (sym (c .before .before .before .before .before .tight .ensures) ∙ c .before .before .before .before .if3 .taken) (c .before .before .wide2 .ensures .0)
+lower-run-requires c κs = search needs
 
 same-length : tie.Need-same-length
 same-length c = search needs

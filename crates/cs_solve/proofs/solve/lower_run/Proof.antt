@@ -1,20 +1,22 @@
 -- `lower_run`: the loop of lists/proofs/Runs.antt. Assumes nothing.
 use Prim.Native.Nat.{_-_}
 use lib.Ieee.{nan, binary64, sub, mul}
-use lib.ListN.{length}
 use borrow.Author.Needs.{needs}
-use Rattle.lists.proofs.Runs.{Zipping, zipping-start, zipping-long, zipping-place, zipping-turn, zipping-done}
+use Rattle.lists.proofs.Runs.{Zipping, zipping-start, zipping-long, zipping-value, zipping-place, zipping-turn, zipping-done}
 use Rattle.cs_solve.proofs.solve.lower_run.Statement.{statement}
 use Rattle.cs_solve.proofs.solve.lower_run.Tie as tie
 
 abbrev Inv-loop : tie.InvT-loop
-Inv-loop x vals b₀ k₀ b k = Zipping (λ y v. sub binary64 y (mul binary64 x v)) vals b₀ b k
+Inv-loop x vals b₀ n k₀ b k = Zipping (λ y v. sub binary64 y (mul binary64 x v)) vals b₀ n b k
 
 abbrev μ-loop : tie.MeasureT-loop
-μ-loop x vals b₀ k₀ b k = length vals - k
+μ-loop x vals b₀ n k₀ b k = n - k
+
+smaller-requires : tie.Need-smaller-requires Inv-loop μ-loop
+smaller-requires c κs = search needs
 
 loop-holds : tie.Need-loop-holds Inv-loop μ-loop
-loop-holds c = zipping-start _ (c .pre)
+loop-holds c = zipping-start _ (c .smaller .ensures)
 
 mul-b : tie.Need-mul-b Inv-loop μ-loop
 mul-b c = search needs
@@ -26,7 +28,7 @@ mul-b-2 : tie.Need-mul-b-2 Inv-loop μ-loop
 mul-b-2 c = search needs
 
 shared-slice-read-b : tie.Need-shared-slice-read-b Inv-loop μ-loop
-shared-slice-read-b c = search needs
+shared-slice-read-b c = zipping-value _ (c .before .before .before .loop .inv) (c .before .before .loop-test .taken)
 
 mul-b-3 : tie.Need-mul-b-3 Inv-loop μ-loop
 mul-b-3 c = search needs
@@ -55,6 +57,7 @@ lower-run-spec =
     (tie.spec
     Inv-loop
     μ-loop
+    smaller-requires
     loop-holds
     mul-b
     slice-read-b

@@ -1,7 +1,8 @@
 -- `take_column`: the run of proofs/Taking.antt, or `take_rows`. Assumes nothing.
 use mathlib.Core.Path.{sym, _∙_}
 use borrow.Author.Needs.{needs}
-use Rattle.cs_up.proofs.Taking.{run-within, run-alike, run-takes}
+use Rattle.lists.proofs.Entries.{run-within}
+use Rattle.cs_up.proofs.Taking.{run-takes}
 use Rattle.cs_up.proofs.row.take_column.Statement.{statement}
 use Rattle.cs_up.proofs.row.take_column.Tie as tie
 
@@ -27,19 +28,19 @@ part-take-run-start : tie.Need-part-take-run-start
 part-take-run-start c = search needs
 
 part-take-run-end : tie.Need-part-take-run-end
-part-take-run-end c = run-within (c .before .before .before .before .before .before .before .before .pre) (sym (c .before .before .before .tight .ensures) ∙ c .before .before .if2 .taken) (c .wide .ensures .0)
+part-take-run-end c = run-within (c .before .before .before .before .before .before .before .before .args .x .now) (c .before .before .before .before .before .before .before .before .pre) (sym (c .before .before .before .tight .ensures) ∙ c .before .before .if2 .taken) (c .wide .ensures .0)
 
 take-run-requires : tie.Need-take-run-requires
-take-run-requires c κs = run-alike (c .before .before .before .before .before .before .before .before .before .pre) (sym (c .before .before .before .before .tight .ensures) ∙ c .before .before .before .if2 .taken) (c .before .wide .ensures .0)
+take-run-requires c κs = search needs
 
 same-length : tie.Need-same-length
 same-length c = search needs
 
 returns : tie.Need-returns
-returns c = run-takes (c .before .before .before .before .before .before .before .before .before .before .before .before .pre) (sym (c .before .before .before .before .before .before .before .tight .ensures) ∙ c .before .before .before .before .before .before .if2 .taken) (c .before .before .before .before .wide .ensures .0) _ (c .before .before .take-run .ensures)
+returns c = run-takes (c .before .before .before .before .before .before .before .before .before .before .before .before .args .x .now) (c .before .before .before .before .before .before .before .before .before .before .before .before .pre) (sym (c .before .before .before .before .before .before .before .tight .ensures) ∙ c .before .before .before .before .before .before .if2 .taken) (c .before .before .before .before .wide .ensures .0) _ (c .before .before .take-run .ensures)
 
 take-rows-requires : tie.Need-take-rows-requires
-take-rows-requires c κs = c .before .before .before .before .before .pre
+take-rows-requires c κs = c .before .before .before .before .before .pre .0
 
 same-length-2 : tie.Need-same-length-2
 same-length-2 c = search needs

@@ -1,20 +1,22 @@
--- `take_rows`: the loop of proofs/Taking.antt. Assumes nothing.
+-- `take_rows`: the loop of lists/proofs/Entries.antt. Assumes nothing.
 use Prim.Native.Nat.{_-_}
 use native.Mathlib.Omega.{arith}
 use lib.ListN.{length}
 use borrow.Author.Needs.{needs}
-use Rattle.cs_up.proofs.Taking.{Taking, taking-start, taking-row, taking-turn, taking-done}
+use Rattle.lists.proofs.Entries.{Passing, passing-start, passing-row, passing-value, passing-end}
+use Rattle.cs_up.specs.Steps.{takeAt}
+use Rattle.cs_up.proofs.Taking.{taking-turn}
 use Rattle.cs_up.proofs.row.take_rows.Statement.{statement}
 use Rattle.cs_up.proofs.row.take_rows.Tie as tie
 
 abbrev Inv-loop : tie.InvT-loop
-Inv-loop t rows vals x₀ z₀ x z = Taking t rows vals x₀ x z
+Inv-loop t rows vals x₀ z₀ x z = Passing (takeAt t) rows vals x₀ x z
 
 abbrev μ-loop : tie.MeasureT-loop
 μ-loop t rows vals x₀ z₀ x z = length rows - z
 
 loop-holds : tie.Need-loop-holds Inv-loop μ-loop
-loop-holds c = taking-start _ (c .before .before .before .pre)
+loop-holds c = passing-start _ (c .before .before .before .pre)
 
 mul-wide : tie.Need-mul-wide Inv-loop μ-loop
 mul-wide c = search needs
@@ -29,19 +31,19 @@ mul-x : tie.Need-mul-x Inv-loop μ-loop
 mul-x c = search needs
 
 slice-read-x : tie.Need-slice-read-x Inv-loop μ-loop
-slice-read-x c = taking-row (c .before .before .before .before .loop .inv) (c .before .before .before .loop-test .taken) (c .before .wide .ensures .0)
+slice-read-x c = passing-row (c .before .before .before .before .loop .inv) (c .before .before .before .loop-test .taken) (c .before .wide .ensures .0)
 
 mul-x-2 : tie.Need-mul-x-2 Inv-loop μ-loop
 mul-x-2 c = search needs
 
 shared-slice-read-x : tie.Need-shared-slice-read-x Inv-loop μ-loop
-shared-slice-read-x c = omega (arith, c .before .before .before .before .before .loop .inv .ask .alike, c .before .before .before .before .loop-test .taken)
+shared-slice-read-x c = passing-value (c .before .before .before .before .before .loop .inv) (c .before .before .before .before .loop-test .taken)
 
 mul-x-3 : tie.Need-mul-x-3 Inv-loop μ-loop
 mul-x-3 c = search needs
 
 slice-write-x : tie.Need-slice-write-x Inv-loop μ-loop
-slice-write-x c = taking-row (c .before .before .before .before .before .loop .inv) (c .before .before .before .before .loop-test .taken) (c .before .before .wide .ensures .0)
+slice-write-x c = passing-row (c .before .before .before .before .before .loop .inv) (c .before .before .before .before .loop-test .taken) (c .before .before .wide .ensures .0)
 
 add-z : tie.Need-add-z Inv-loop μ-loop
 add-z c = search needs
@@ -50,13 +52,13 @@ loop-less : tie.Need-loop-less Inv-loop μ-loop
 loop-less c = omega (arith, c .before .before .before .before .loop-test .taken)
 
 loop-again : tie.Need-loop-again Inv-loop μ-loop
-loop-again c = taking-turn (c .before .before .before .before .before .loop .inv) (c .before .before .before .before .loop-test .taken) (c .before .before .wide .ensures .0)
+loop-again c = taking-turn _ (c .before .before .before .before .before .loop .inv) (c .before .before .before .before .loop-test .taken) (c .before .before .wide .ensures .0)
 
 same-length : tie.Need-same-length Inv-loop μ-loop
 same-length c = c .before .loop .inv .long
 
 returns : tie.Need-returns Inv-loop μ-loop
-returns c = taking-done (c .before .loop .inv) (c .loop-test .left)
+returns c = passing-end (c .before .loop .inv) (c .loop-test .left)
 
 pub take-rows-spec : {M : Type 1} → statement M
 take-rows-spec =

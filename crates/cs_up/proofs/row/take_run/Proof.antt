@@ -1,20 +1,22 @@
 -- `take_run`: the loop of lists/proofs/Runs.antt. Assumes nothing.
 use Prim.Native.Nat.{_-_}
 use lib.Ieee.{nan, binary64, sub, mul}
-use lib.ListN.{length}
 use borrow.Author.Needs.{needs}
-use Rattle.lists.proofs.Runs.{Zipping, zipping-start, zipping-long, zipping-place, zipping-turn, zipping-done}
+use Rattle.lists.proofs.Runs.{Zipping, zipping-start, zipping-long, zipping-value, zipping-place, zipping-turn, zipping-done}
 use Rattle.cs_up.proofs.row.take_run.Statement.{statement}
 use Rattle.cs_up.proofs.row.take_run.Tie as tie
 
 abbrev Inv-loop : tie.InvT-loop
-Inv-loop t vals x₀ z₀ x z = Zipping (λ a v. sub binary64 a (mul binary64 v t)) vals x₀ x z
+Inv-loop t vals x₀ n z₀ x z = Zipping (λ a v. sub binary64 a (mul binary64 v t)) vals x₀ n x z
 
 abbrev μ-loop : tie.MeasureT-loop
-μ-loop t vals x₀ z₀ x z = length vals - z
+μ-loop t vals x₀ n z₀ x z = n - z
+
+smaller-requires : tie.Need-smaller-requires Inv-loop μ-loop
+smaller-requires c κs = search needs
 
 loop-holds : tie.Need-loop-holds Inv-loop μ-loop
-loop-holds c = zipping-start _ (c .pre)
+loop-holds c = zipping-start _ (c .smaller .ensures)
 
 mul-x : tie.Need-mul-x Inv-loop μ-loop
 mul-x c = search needs
@@ -26,7 +28,7 @@ mul-x-2 : tie.Need-mul-x-2 Inv-loop μ-loop
 mul-x-2 c = search needs
 
 shared-slice-read-x : tie.Need-shared-slice-read-x Inv-loop μ-loop
-shared-slice-read-x c = search needs
+shared-slice-read-x c = zipping-value _ (c .before .before .before .loop .inv) (c .before .before .loop-test .taken)
 
 mul-x-3 : tie.Need-mul-x-3 Inv-loop μ-loop
 mul-x-3 c = search needs
@@ -55,6 +57,7 @@ take-run-spec =
     (tie.spec
     Inv-loop
     μ-loop
+    smaller-requires
     loop-holds
     mul-x
     slice-read-x

@@ -1,3 +1,4 @@
+-- `by_up` meets its contract. Assumes nothing.
 use denote.Ref.{now}
 use Rattle.cs_up.specs.Up.{up}
 use Rattle.job_prepare.specs.Prepare.{scratchRoom}
@@ -9,35 +10,25 @@ use Rattle.job.proofs.Engines.{out-of}
 use borrow.Author.Needs.{needs}
 use Rattle.job.proofs.factor.by_up.Statement.{statement}
 use Rattle.job.proofs.factor.by_up.Tie as tie
-use Rattle.job.proofs.factor.by_up.Reads as reads
-use Rattle.job.proofs.factor.by_up.Lts as lts
-use Rattle.cs_up.proofs.up.decompose_up_looking.Reads as decompose-up-looking-reads
 
--- src/factor.rt:89:9
 slice-aggregate-decompose-up-looking : tie.Need-slice-aggregate-decompose-up-looking
 slice-aggregate-decompose-up-looking c = search needs
 
--- src/factor.rt:90:9
 slice-aggregate-decompose-up-looking-2 : tie.Need-slice-aggregate-decompose-up-looking-2
 slice-aggregate-decompose-up-looking-2 c = search needs
 
--- src/factor.rt:91:9
 slice-aggregate-decompose-up-looking-3 : tie.Need-slice-aggregate-decompose-up-looking-3
 slice-aggregate-decompose-up-looking-3 c = search needs
 
--- src/factor.rt:92:9
 slice-aggregate-decompose-up-looking-4 : tie.Need-slice-aggregate-decompose-up-looking-4
 slice-aggregate-decompose-up-looking-4 c = search needs
 
--- src/factor.rt:77:5
 decompose-up-looking-requires : tie.Need-decompose-up-looking-requires
 decompose-up-looking-requires c κs = search needs
 
--- src/factor.rt:55:1
 same-length : tie.Need-same-length
 same-length c = search needs
 
--- src/factor.rt:55:1
 returns : tie.Need-returns
 returns c = (c .before .before .before .before .before .before .decompose-up-looking .ensures .0, out-of (c .before .before .before .before .before .before .decompose-up-looking .result .number) (needed (pattern (c .before .before .before .before .before .before .before .before .before .before .before .before .before .before .before .before .before .before .before .before .before .args .n) (c .before .before .before .before .before .before .before .before .before .before .before .before .before .before .before .before .before .before .before .before .before .args .n) (now (c .before .before .before .before .before .before .before .before .before .before .before .before .before .before .before .before .before .before .before .before .before .args .p)) (now (c .before .before .before .before .before .before .before .before .before .before .before .before .before .before .before .before .before .before .before .before .before .args .i)))) (written (entries (upper (columns (pattern (c .before .before .before .before .before .before .before .before .before .before .before .before .before .before .before .before .before .before .before .before .before .args .n) (c .before .before .before .before .before .before .before .before .before .before .before .before .before .before .before .before .before .before .before .before .before .args .n) (now (c .before .before .before .before .before .before .before .before .before .before .before .before .before .before .before .before .before .before .before .before .before .args .p)) (now (c .before .before .before .before .before .before .before .before .before .before .before .before .before .before .before .before .before .before .before .before .before .args .i)))))) (up (matrix (c .before .before .before .before .before .before .before .before .before .before .before .before .before .before .before .before .before .before .before .before .before .args .n) (c .before .before .before .before .before .before .before .before .before .before .before .before .before .before .before .before .before .before .before .before .before .args .n) (now (c .before .before .before .before .before .before .before .before .before .before .before .before .before .before .before .before .before .before .before .before .before .args .p)) (now (c .before .before .before .before .before .before .before .before .before .before .before .before .before .before .before .before .before .before .before .before .before .args .i)) (now (c .before .before .before .before .before .before .before .before .before .before .before .before .before .before .before .before .before .before .before .before .before .args .v)))) (now (c .before .before .before .before .before .before .before .before .before .before .before .before .before .before .before .before .before .before .before .before .before .args .lx))) (now (c .before .before .before .before .before .before .before .before .before .before .before .before .before .before .before .before .before .before .before .before .before .args .lx)) scratchRoom (c .before .before .before .before .before .before .decompose-up-looking .ensures .1))
 

@@ -1,3 +1,4 @@
+-- `work` meets its contract. Assumes nothing.
 use lib.ListN.{replicate}
 use denote.Ref.{now}
 use Rattle.lists.specs.Calls.{none}
@@ -7,28 +8,19 @@ use Rattle.job.proofs.Working.{work-refused, work-asks, work-done}
 use borrow.Author.Needs.{needs}
 use Rattle.job.proofs.work.work.Statement.{statement}
 use Rattle.job.proofs.work.work.Tie as tie
-use Rattle.job.proofs.work.work.Reads as reads
-use Rattle.job.proofs.work.work.Lts as lts
-use Rattle.job.proofs.run.run.Reads as run-reads
-use Rattle.job_prepare.proofs.prepare.prepare.Reads as prepare-reads
 
--- src/work.rt:22:9
 prepare-requires : tie.Need-prepare-requires
 prepare-requires c κs = search needs
 
--- src/work.rt:37:9
 returns : tie.Need-returns
 returns c = work-refused (c .before .before .before .before .before .before .before .before .before .before .before .before .before .before .args .engine) (triplets (c .before .before .before .before .before .before .before .before .before .before .before .before .before .before .args .n) (c .before .before .before .before .before .before .before .before .before .before .before .before .before .before .args .n) (now (c .before .before .before .before .before .before .before .before .before .before .before .before .before .before .args .rows)) (now (c .before .before .before .before .before .before .before .before .before .before .before .before .before .before .args .cols)) (now (c .before .before .before .before .before .before .before .before .before .before .before .before .before .before .args .vals))) (now (c .before .before .before .before .before .before .before .before .before .before .before .before .before .before .args .b)) (c .before .prepare .result) (c .before .prepare .ensures .0) (c .if1 .taken)
 
--- src/work.rt:42:5
 run-requires : tie.Need-run-requires
 run-requires c κs = work-asks (c .before .before .before .before .before .before .before .before .before .before .before .before .before .before .before .before .before .before .before .before .before .before .before .args .n) (now (c .before .before .before .before .before .before .before .before .before .before .before .before .before .before .before .before .before .before .before .before .before .before .before .args .rows)) (now (c .before .before .before .before .before .before .before .before .before .before .before .before .before .before .before .before .before .before .before .before .before .before .before .args .cols)) (now (c .before .before .before .before .before .before .before .before .before .before .before .before .before .before .before .before .before .before .before .before .before .before .before .args .vals)) (replicate 257 0) (replicate 2048 0) (replicate 2048 none) (analysis (replicate 256 0) (replicate 257 0) (replicate 2048 0) (replicate 257 0) (replicate 2048 0)) (c .before .before .before .before .before .before .before .before .before .before .prepare .last .1 .1 .1 .1 .0) (c .before .before .before .before .before .before .before .before .before .before .prepare .last .1 .1 .1 .1 .1 .0) (c .before .before .before .before .before .before .before .before .before .before .prepare .last .1 .1 .1 .1 .1 .1 .0) (analysis (c .before .before .before .before .before .before .before .before .before .before .prepare .last .1 .1 .1 .1 .1 .1 .1 .0) (c .before .before .before .before .before .before .before .before .before .before .prepare .last .1 .1 .1 .1 .1 .1 .1 .1 .0) (c .before .before .before .before .before .before .before .before .before .before .prepare .last .1 .1 .1 .1 .1 .1 .1 .1 .1 .0) (c .before .before .before .before .before .before .before .before .before .before .prepare .last .1 .1 .1 .1 .1 .1 .1 .1 .1 .1 .0) (c .before .before .before .before .before .before .before .before .before .before .prepare .last .1 .1 .1 .1 .1 .1 .1 .1 .1 .1 .1 .0)) (c .before .before .before .before .before .before .before .before .before .before .prepare .result) (c .before .before .before .before .before .before .before .before .before .before .prepare .ensures) (c .before .before .before .before .before .before .before .before .before .if1 .left)
 
--- src/work.rt:10:1
 same-length : tie.Need-same-length
 same-length c = search needs
 
--- src/work.rt:10:1
 returns-2 : tie.Need-returns-2
 returns-2 c = work-done (c .before .before .before .before .before .before .before .before .before .before .before .before .before .before .before .before .before .before .before .before .before .before .before .before .before .before .args .n) (now (c .before .before .before .before .before .before .before .before .before .before .before .before .before .before .before .before .before .before .before .before .before .before .before .before .before .before .args .rows)) (now (c .before .before .before .before .before .before .before .before .before .before .before .before .before .before .before .before .before .before .before .before .before .before .before .before .before .before .args .cols)) (now (c .before .before .before .before .before .before .before .before .before .before .before .before .before .before .before .before .before .before .before .before .before .before .before .before .before .before .args .vals)) (replicate 257 0) (replicate 2048 0) (replicate 2048 none) (analysis (replicate 256 0) (replicate 257 0) (replicate 2048 0) (replicate 257 0) (replicate 2048 0)) (c .before .before .before .before .before .before .before .before .before .before .before .before .before .prepare .last .1 .1 .1 .1 .0) (c .before .before .before .before .before .before .before .before .before .before .before .before .before .prepare .last .1 .1 .1 .1 .1 .0) (c .before .before .before .before .before .before .before .before .before .before .before .before .before .prepare .last .1 .1 .1 .1 .1 .1 .0) (analysis (c .before .before .before .before .before .before .before .before .before .before .before .before .before .prepare .last .1 .1 .1 .1 .1 .1 .1 .0) (c .before .before .before .before .before .before .before .before .before .before .before .before .before .prepare .last .1 .1 .1 .1 .1 .1 .1 .1 .0) (c .before .before .before .before .before .before .before .before .before .before .before .before .before .prepare .last .1 .1 .1 .1 .1 .1 .1 .1 .1 .0) (c .before .before .before .before .before .before .before .before .before .before .before .before .before .prepare .last .1 .1 .1 .1 .1 .1 .1 .1 .1 .1 .0) (c .before .before .before .before .before .before .before .before .before .before .before .before .before .prepare .last .1 .1 .1 .1 .1 .1 .1 .1 .1 .1 .1 .0)) (c .before .before .before .before .before .before .before .before .before .before .before .before .before .prepare .result) (c .before .before .before .before .before .before .before .before .before .before .before .before .before .prepare .ensures) (c .before .before .before .before .before .before .before .before .before .before .before .before .if1 .left) (c .before .before .before .before .before .before .before .before .before .before .before .before .before .before .before .before .before .before .before .before .before .before .before .before .before .before .args .engine) (now (c .before .before .before .before .before .before .before .before .before .before .before .before .before .before .before .before .before .before .before .before .before .before .before .before .before .before .args .b)) (c .before .before .run .ensures)
 

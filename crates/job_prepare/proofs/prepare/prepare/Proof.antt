@@ -1,29 +1,21 @@
+-- `prepare` meets its contract. Assumes nothing.
 use denote.Ref.{now}
 use Rattle.cs_matrix.specs.Matrix.{stored}
 use Rattle.cs_conversion.specs.Assembly.{triplets}
 use Rattle.cs_tree.specs.Pattern.{analysis}
 use Rattle.job_prepare.proofs.Preparing.{prepared-asks, prepared-analysed, prepared-refused}
-use borrow.Author.Needs.{needs}
 use Rattle.job_prepare.proofs.prepare.prepare.Statement.{statement}
 use Rattle.job_prepare.proofs.prepare.prepare.Tie as tie
-use Rattle.job_prepare.proofs.prepare.prepare.Reads as reads
-use Rattle.job_prepare.proofs.prepare.prepare.Lts as lts
-use Rattle.job_prepare.proofs.prepare.analyse.Reads as analyse-reads
-use Rattle.job_prepare.proofs.prepare.assemble.Reads as assemble-reads
 
--- src/prepare.rt:110:9
 assemble-requires : tie.Need-assemble-requires
 assemble-requires c κs = (c .before .before .assemble-arg .given .0 .1, c .before .assemble-arg2 .given .0 .1, c .assemble-arg3 .given .0 .1)
 
--- src/prepare.rt:112:9
 returns : tie.Need-returns
 returns c = prepared-refused (triplets (c .before .before .before .before .before .before .before .before .args .n) (c .before .before .before .before .before .before .before .before .args .n) (now (c .before .before .before .before .before .before .before .before .args .rows)) (now (c .before .before .before .before .before .before .before .before .args .cols)) (now (c .before .before .before .before .before .before .before .before .args .vals))) (stored (now (c .before .before .before .before .before .before .before .before .args .p)) (now (c .before .before .before .before .before .before .before .before .args .i)) (now (c .before .before .before .before .before .before .before .before .args .v))) (stored (c .before .assemble .last .1 .1 .1 .1 .0) (c .before .assemble .last .1 .1 .1 .1 .1 .0) (c .before .assemble .last .1 .1 .1 .1 .1 .1 .0)) (analysis (now (c .before .before .before .before .before .before .before .before .args .tree)) (now (c .before .before .before .before .before .before .before .before .args .up)) (now (c .before .before .before .before .before .before .before .before .args .ui)) (now (c .before .before .before .before .before .before .before .before .args .lp)) (now (c .before .before .before .before .before .before .before .before .args .li))) (c .before .assemble .result) (c .if1 .taken) (c .before .assemble .ensures)
 
--- src/prepare.rt:114:5
 analyse-requires : tie.Need-analyse-requires
 analyse-requires c κs = prepared-asks (c .before .before .before .before .before .before .before .before .before .before .before .before .before .before .before .before .before .args .n) (now (c .before .before .before .before .before .before .before .before .before .before .before .before .before .before .before .before .before .args .rows)) (now (c .before .before .before .before .before .before .before .before .before .before .before .before .before .before .before .before .before .args .cols)) (now (c .before .before .before .before .before .before .before .before .before .before .before .before .before .before .before .before .before .args .vals)) (now (c .before .before .before .before .before .before .before .before .before .before .before .before .before .before .before .before .before .args .p)) (now (c .before .before .before .before .before .before .before .before .before .before .before .before .before .before .before .before .before .args .i)) (now (c .before .before .before .before .before .before .before .before .before .before .before .before .before .before .before .before .before .args .v)) (c .before .before .before .before .before .before .before .before .before .before .assemble .last .1 .1 .1 .1 .0) (c .before .before .before .before .before .before .before .before .before .before .assemble .last .1 .1 .1 .1 .1 .0) (c .before .before .before .before .before .before .before .before .before .before .assemble .last .1 .1 .1 .1 .1 .1 .0) (c .before .before .before .before .before .before .before .before .before .before .assemble .result) (c .before .before .before .before .before .before .before .before .before .if1 .left) (c .before .before .before .before .before .before .before .before .before .before .assemble .ensures)
 
--- src/prepare.rt:89:1
 returns-2 : tie.Need-returns-2
 returns-2 c = prepared-analysed (c .before .before .before .before .before .before .before .before .before .before .before .before .before .before .before .before .before .before .args .n) (now (c .before .before .before .before .before .before .before .before .before .before .before .before .before .before .before .before .before .before .args .rows)) (now (c .before .before .before .before .before .before .before .before .before .before .before .before .before .before .before .before .before .before .args .cols)) (now (c .before .before .before .before .before .before .before .before .before .before .before .before .before .before .before .before .before .before .args .vals)) (now (c .before .before .before .before .before .before .before .before .before .before .before .before .before .before .before .before .before .before .args .p)) (now (c .before .before .before .before .before .before .before .before .before .before .before .before .before .before .before .before .before .before .args .i)) (now (c .before .before .before .before .before .before .before .before .before .before .before .before .before .before .before .before .before .before .args .v)) (c .before .before .before .before .before .before .before .before .before .before .before .assemble .last .1 .1 .1 .1 .0) (c .before .before .before .before .before .before .before .before .before .before .before .assemble .last .1 .1 .1 .1 .1 .0) (c .before .before .before .before .before .before .before .before .before .before .before .assemble .last .1 .1 .1 .1 .1 .1 .0) (c .before .before .before .before .before .before .before .before .before .before .before .assemble .result) (c .before .before .before .before .before .before .before .before .before .before .if1 .left) (c .before .before .before .before .before .before .before .before .before .before .before .assemble .ensures) (analysis (now (c .before .before .before .before .before .before .before .before .before .before .before .before .before .before .before .before .before .before .args .tree)) (now (c .before .before .before .before .before .before .before .before .before .before .before .before .before .before .before .before .before .before .args .up)) (now (c .before .before .before .before .before .before .before .before .before .before .before .before .before .before .before .before .before .before .args .ui)) (now (c .before .before .before .before .before .before .before .before .before .before .before .before .before .before .before .before .before .before .args .lp)) (now (c .before .before .before .before .before .before .before .before .before .before .before .before .before .before .before .before .before .before .args .li))) _ (c .analyse .result) (c .analyse .ensures)
 

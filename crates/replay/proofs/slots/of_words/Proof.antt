@@ -1,14 +1,10 @@
+-- `of_words` meets its contract. Assumes nothing.
 use mathlib.Core.Path.{_≡_}
 use Prim.Native.Nat.{_-_, _≤_}
 use lib.ListN.{length}
 use borrow.Author.Needs.{needs}
 use Rattle.replay.proofs.slots.of_words.Statement.{statement}
 use Rattle.replay.proofs.slots.of_words.Tie as tie
-use Rattle.replay.proofs.slots.of_words.Reads as reads
-use Rattle.replay.proofs.slots.of_words.Lts as lts
-use Rattle.replay.proofs.slots.moved.Reads as moved-reads
-use Rattle.replay.proofs.slots.put.Reads as put-reads
-use Rattle.replay.proofs.slots.wide.Reads as wide-reads
 
 abbrev Inv-loop : tie.InvT-loop
 Inv-loop a raw₀ n k₀ raw k = ((n ≤ 4096) × (n ≤ length a)) × (length raw ≡ length raw₀)
@@ -16,51 +12,39 @@ Inv-loop a raw₀ n k₀ raw k = ((n ≤ 4096) × (n ≤ length a)) × (length r
 abbrev μ-loop : tie.MeasureT-loop
 μ-loop a raw₀ n k₀ raw k = n - k
 
--- src/slots.rt:110:9
 moved-requires : tie.Need-moved-requires Inv-loop μ-loop
 moved-requires c κs = search needs
 
--- src/slots.rt:111:5
 loop-holds : tie.Need-loop-holds Inv-loop μ-loop
 loop-holds c = search needs
 
--- src/slots.rt:112:18
 mul-wide : tie.Need-mul-wide Inv-loop μ-loop
 mul-wide c = search needs
 
--- src/slots.rt:112:18
 shared-slice-read-wide : tie.Need-shared-slice-read-wide Inv-loop μ-loop
 shared-slice-read-wide c = search needs
 
--- src/slots.rt:112:13
 wide-requires : tie.Need-wide-requires Inv-loop μ-loop
 wide-requires c κs = search needs
 
--- src/slots.rt:112:25
 mul-put : tie.Need-mul-put Inv-loop μ-loop
 mul-put c = search needs
 
--- src/slots.rt:112:9
 put-requires : tie.Need-put-requires Inv-loop μ-loop
 put-requires c κs = search needs
 
--- src/slots.rt:111:9
 add-k : tie.Need-add-k Inv-loop μ-loop
 add-k c = search needs
 
--- src/slots.rt:111:5
 loop-less : tie.Need-loop-less Inv-loop μ-loop
 loop-less c = search needs
 
--- src/slots.rt:111:5
 loop-again : tie.Need-loop-again Inv-loop μ-loop
 loop-again c = search needs
 
--- src/slots.rt:109:1
 same-length : tie.Need-same-length Inv-loop μ-loop
 same-length c = search needs
 
--- src/slots.rt:109:1
 returns : tie.Need-returns Inv-loop μ-loop
 returns c = search needs
 

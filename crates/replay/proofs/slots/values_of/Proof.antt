@@ -1,16 +1,10 @@
+-- `values_of` meets its contract. Assumes nothing.
 use mathlib.Core.Path.{_≡_}
 use Prim.Native.Nat.{_-_, _≤_}
 use lib.ListN.{length}
 use borrow.Author.Needs.{needs}
 use Rattle.replay.proofs.slots.values_of.Statement.{statement}
 use Rattle.replay.proofs.slots.values_of.Tie as tie
-use Rattle.replay.proofs.slots.values_of.Reads as reads
-use Rattle.replay.proofs.slots.values_of.Lts as lts
-use Rattle.float_bits.proofs.of_bits.Reads as of-bits-reads
-use Rattle.replay.proofs.slots.bits.Reads as bits-reads
-use Rattle.replay.proofs.slots.moved.Reads as moved-reads
-use Rattle.replay.proofs.slots.put_value.Reads as put-value-reads
-use Rattle.replay.proofs.slots.word_at.Reads as word-at-reads
 
 abbrev Inv-loop : tie.InvT-loop
 Inv-loop raw out₀ n k₀ out k = (n ≤ 4096) × (length out ≡ length out₀)
@@ -18,63 +12,48 @@ Inv-loop raw out₀ n k₀ out k = (n ≤ 4096) × (length out ≡ length out₀
 abbrev μ-loop : tie.MeasureT-loop
 μ-loop raw out₀ n k₀ out k = n - k
 
--- src/slots.rt:103:9
 moved-requires : tie.Need-moved-requires Inv-loop μ-loop
 moved-requires c κs = search needs
 
--- src/slots.rt:104:5
 loop-holds : tie.Need-loop-holds Inv-loop μ-loop
 loop-holds c = search needs
 
--- src/slots.rt:105:45
 mul-word-at : tie.Need-mul-word-at Inv-loop μ-loop
 mul-word-at c = search needs
 
--- src/slots.rt:105:32
 word-at-requires : tie.Need-word-at-requires Inv-loop μ-loop
 word-at-requires c κs = search needs
 
--- src/slots.rt:105:66
 mul-word-at-2 : tie.Need-mul-word-at-2 Inv-loop μ-loop
 mul-word-at-2 c = search needs
 
--- src/slots.rt:105:66
 add-word-at : tie.Need-add-word-at Inv-loop μ-loop
 add-word-at c = search needs
 
--- src/slots.rt:105:53
 word-at-requires-2 : tie.Need-word-at-requires-2 Inv-loop μ-loop
 word-at-requires-2 c κs = search needs
 
--- src/slots.rt:105:27
 bits-requires : tie.Need-bits-requires Inv-loop μ-loop
 bits-requires c κs = search needs
 
--- src/slots.rt:105:19
 of-bits-requires : tie.Need-of-bits-requires Inv-loop μ-loop
 of-bits-requires c κs = search needs
 
--- src/slots.rt:105:9
 put-value-requires : tie.Need-put-value-requires Inv-loop μ-loop
 put-value-requires c κs = search needs
 
--- src/slots.rt:104:9
 add-k : tie.Need-add-k Inv-loop μ-loop
 add-k c = search needs
 
--- src/slots.rt:104:5
 loop-less : tie.Need-loop-less Inv-loop μ-loop
 loop-less c = search needs
 
--- src/slots.rt:104:5
 loop-again : tie.Need-loop-again Inv-loop μ-loop
 loop-again c = search needs
 
--- src/slots.rt:102:1
 same-length : tie.Need-same-length Inv-loop μ-loop
 same-length c = search needs
 
--- src/slots.rt:102:1
 returns : tie.Need-returns Inv-loop μ-loop
 returns c = search needs
 

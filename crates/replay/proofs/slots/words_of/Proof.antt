@@ -1,14 +1,10 @@
+-- `words_of` meets its contract. Assumes nothing.
 use mathlib.Core.Path.{_≡_}
 use Prim.Native.Nat.{_-_, _≤_}
 use lib.ListN.{length}
 use borrow.Author.Needs.{needs}
 use Rattle.replay.proofs.slots.words_of.Statement.{statement}
 use Rattle.replay.proofs.slots.words_of.Tie as tie
-use Rattle.replay.proofs.slots.words_of.Reads as reads
-use Rattle.replay.proofs.slots.words_of.Lts as lts
-use Rattle.replay.proofs.slots.moved.Reads as moved-reads
-use Rattle.replay.proofs.slots.put_word.Reads as put-word-reads
-use Rattle.replay.proofs.slots.word_at.Reads as word-at-reads
 
 abbrev Inv-loop : tie.InvT-loop
 Inv-loop raw out₀ n k₀ out k = (n ≤ 4096) × (length out ≡ length out₀)
@@ -16,43 +12,33 @@ Inv-loop raw out₀ n k₀ out k = (n ≤ 4096) × (length out ≡ length out₀
 abbrev μ-loop : tie.MeasureT-loop
 μ-loop raw out₀ n k₀ out k = n - k
 
--- src/slots.rt:96:9
 moved-requires : tie.Need-moved-requires Inv-loop μ-loop
 moved-requires c κs = search needs
 
--- src/slots.rt:97:5
 loop-holds : tie.Need-loop-holds Inv-loop μ-loop
 loop-holds c = search needs
 
--- src/slots.rt:98:31
 mul-word-at : tie.Need-mul-word-at Inv-loop μ-loop
 mul-word-at c = search needs
 
--- src/slots.rt:98:18
 word-at-requires : tie.Need-word-at-requires Inv-loop μ-loop
 word-at-requires c κs = search needs
 
--- src/slots.rt:98:9
 put-word-requires : tie.Need-put-word-requires Inv-loop μ-loop
 put-word-requires c κs = search needs
 
--- src/slots.rt:97:9
 add-k : tie.Need-add-k Inv-loop μ-loop
 add-k c = search needs
 
--- src/slots.rt:97:5
 loop-less : tie.Need-loop-less Inv-loop μ-loop
 loop-less c = search needs
 
--- src/slots.rt:97:5
 loop-again : tie.Need-loop-again Inv-loop μ-loop
 loop-again c = search needs
 
--- src/slots.rt:95:1
 same-length : tie.Need-same-length Inv-loop μ-loop
 same-length c = search needs
 
--- src/slots.rt:95:1
 returns : tie.Need-returns Inv-loop μ-loop
 returns c = search needs
 

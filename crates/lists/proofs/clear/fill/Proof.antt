@@ -1,4 +1,4 @@
--- `clear`: the loop of proofs/Clearing.antt. Assumes nothing.
+-- `fill`: the loop of proofs/Clearing.antt. Assumes nothing.
 use mathlib.Core.Logic.{inl, inr}
 use Prim.Native.Nat.{_-_, _<_}
 use native.Mathlib.Omega.{arith}
@@ -6,14 +6,14 @@ use lib.ListN.{length}
 use borrow.Author.Needs.{needs}
 use borrow.Author.Tests.{ltb-true, ltb-false}
 use Rattle.lists.proofs.Clearing.{Clearing, clearing-start, clearing-turn, clearing-done}
-use Rattle.lists.proofs.clear.clear.Statement.{statement}
-use Rattle.lists.proofs.clear.clear.Tie as tie
+use Rattle.lists.proofs.clear.fill.Statement.{statement}
+use Rattle.lists.proofs.clear.fill.Tie as tie
 
 abbrev Inv-loop : tie.InvT-loop
-Inv-loop n out₀ k₀ out k = Clearing 0 n out₀ out k
+Inv-loop x n out₀ k₀ out k = Clearing x n out₀ out k
 
 abbrev μ-loop : tie.MeasureT-loop
-μ-loop n out₀ k₀ out k = n - k
+μ-loop x n out₀ k₀ out k = n - k
 
 loop-holds : tie.Need-loop-holds Inv-loop μ-loop
 loop-holds c = clearing-start _ _ _
@@ -45,5 +45,5 @@ same-length-2 c = c .before .loop .inv .long
 returns-2 : tie.Need-returns-2 Inv-loop μ-loop
 returns-2 c = clearing-done _ (c .before .loop .inv) (inl (c .loop-test .left))
 
-pub clear-spec : {M : Type 1} → statement M
-clear-spec = tie.close (tie.spec Inv-loop μ-loop loop-holds mul-out slice-write-out add-k loop-less loop-again same-length returns same-length-2 returns-2)
+pub fill-spec : {M : Type 1} → statement M
+fill-spec = tie.close (tie.spec Inv-loop μ-loop loop-holds mul-out slice-write-out add-k loop-less loop-again same-length returns same-length-2 returns-2)
