@@ -1,5 +1,5 @@
 -- The columns in turn: the fold that a factoring is, one column at a time. Assumes nothing.
-use mathlib.Core.Path.{_≡_, refl, sym, ap, _∙_}
+use mathlib.Core.Path.{_≡_, refl, ap, _∙_}
 use mathlib.Core.Bool.{Bool, true, false, cond}
 use mathlib.Core.List.{List, []}
 use mathlib.Core.Logic.{_⊎_, inl, inr}
@@ -7,7 +7,7 @@ use Prim.Native.Nat.{ℕ, zero, suc, _+_, _-_, _≤_, _<_}
 use native.Mathlib.Omega.{arith}
 use lib.Ieee.{Float, lt}
 use Rattle.lists.specs.Calls.{none}
-use Rattle.cs_cholesky.specs.Factor.{Step, Outcome, factored, factor}
+use Rattle.cs_cholesky.specs.Factor.{Step, factored, factor}
 
 module _ (step : ℕ → List (List Float) → Step) where
   -- it ends with 0, or stops with 11

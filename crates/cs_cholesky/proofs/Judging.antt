@@ -1,20 +1,18 @@
 -- `judge`: the pattern's numbers beside 2 for the values. Assumes nothing.
 use mathlib.Core.Path.{_≡_, refl, sym, ap, _∙_}
-use mathlib.Core.Bool.{Bool, true, false, not, cond, _||_}
-use mathlib.Core.List.{List, [], _∷_, _++_}
-use Prim.Native.Nat.{ℕ, zero, suc, _+_, _≤_, _<_}
+use mathlib.Core.Bool.{Bool, true, false, not, _||_}
+use Prim.Native.Nat.{ℕ, _+_, _<_}
 use native.Mathlib.Omega.{arith}
 use lib.Dec.{eqb}
 use lib.ListN.{length}
 use borrow.Author.Tests.{eq-eqb, ne-eqb, lt-ltb}
-use Rattle.lists.specs.Calls.{lowest, both, disagree, lower, Scratch, narrow, worked}
+use Rattle.lists.specs.Calls.{lowest, both, disagree, lower, Scratch, worked}
 use Rattle.lists.proofs.Calls.{lowest-both, lower-none, first, below-7}
-use Rattle.cs_matrix.specs.Matrix.{Pattern, Matrix, tooLarge, judgedPattern, judged, judgedSquare, judgedSquareMatrix, needed}
+use Rattle.cs_matrix.specs.Matrix.{Matrix, tooLarge, judgedPattern, judged, judgedSquare, judgedSquareMatrix, needed}
 use Rattle.cs_matrix.proofs.Refusing.{from-disagree}
 use Rattle.cs_matrix.proofs.Squaring.{from-square, early-matrix}
-use Rattle.cs_tree.specs.Pattern.{Analysis, analysed}
-use Rattle.cs_pattern.specs.Columns.{columns}
-use Rattle.cs_pattern.specs.Compare.{same, tight, number}
+use Rattle.cs_tree.specs.Pattern.{Analysis}
+use Rattle.cs_pattern.specs.Compare.{number}
 use Rattle.cs_cholesky.specs.Factor.{judgedFactor}
 
 or-swap : (a b c : Bool) → (a || b || c) ≡ (a || c || b)

@@ -1,26 +1,23 @@
 -- What is known where none of 1 to 8 applies. Assumes nothing.
-use mathlib.Core.Path.{_≡_, refl, sym, ap, _∙_}
-use mathlib.Core.Bool.{Bool, true, false, not, cond, _||_, _&&_}
+use mathlib.Core.Path.{_≡_, sym, ap, _∙_}
+use mathlib.Core.Bool.{Bool, true, false, not, _&&_}
 use mathlib.Core.List.{List, [], _∷_, _++_, flatten}
-use Prim.Native.Nat.{ℕ, zero, suc, _+_, _-_, _≤_, _<_, max}
+use Prim.Native.Nat.{ℕ, _+_, _-_, _≤_, _<_}
 use native.Mathlib.Omega.{arith}
-use lib.Dec.{eqb, ltb}
+use lib.Dec.{ltb}
 use lib.Ieee.{Float}
-use lib.ListN.{length, getD, take, drop, take-append-drop}
-use borrow.Author.Tests.{eq-eqb, ne-eqb, eqb-true, ltb-false}
-use Rattle.lists.specs.Calls.{lowest, both, disagree, onto, none, Scratch, narrow, wiped, Lent, lent, outputs, worked, leaves}
+use lib.ListN.{length, getD, drop, take-append-drop}
+use borrow.Author.Tests.{ltb-false}
+use Rattle.lists.specs.Calls.{lowest, onto, Scratch, narrow}
 use Rattle.lists.specs.Parts.{part}
 use Rattle.lists.proofs.Bools.{and-true, or-false, not-holds, passed-over}
-use Rattle.lists.proofs.Calls.{Early, lowest-both, lower-none, first, then, Wide, not-narrow}
+use Rattle.lists.proofs.Calls.{Wide, not-narrow}
 use Rattle.lists.proofs.Passing.{lowest-none}
-use Rattle.lists.proofs.Parts.{part-take}
-use Rattle.cs_matrix.specs.Matrix.{Pattern, pattern, Matrix, matrix, judged, needed, ValidPattern, Valid, judgedSquareMatrix}
-use Rattle.cs_matrix.proofs.Refusing.{from-judged, from-disagree}
+use Rattle.cs_matrix.specs.Matrix.{pattern, Matrix, matrix, needed, Valid, judgedSquareMatrix}
 use Rattle.cs_matrix.proofs.Validity.{valid}
 use Rattle.cs_tree.specs.Pattern.{Analysis, analysis, analysed, upper, lower, starts, entries}
-use Rattle.cs_tree.specs.Steps.{Pointed}
 use Rattle.cs_tree.specs.Tree.{tree, root}
-use Rattle.cs_tree.proofs.Count.{length-starts, entries-lower}
+use Rattle.cs_tree.proofs.Count.{length-starts}
 use Rattle.cs_tree.proofs.Laid.{length-laid, start-at, entries-part, entries-more}
 use Rattle.cs_tree.proofs.Lower.{length-upper}
 use Rattle.cs_tree.proofs.Promises.{promised, length-lower}
@@ -29,8 +26,7 @@ use Rattle.cs_pattern.specs.Columns.{columns}
 use Rattle.cs_pattern.specs.Compare.{startsWith, same, tight}
 use Rattle.cs_pattern.proofs.Columns.{columns-fit, columns-long}
 use Rattle.cs_pattern.proofs.Matching.{begins, starts-long, starts-at}
-use Rattle.cs_cholesky.specs.declared.Factored.{Factored}
-use Rattle.cs_cholesky.specs.Factor.{Outcome, factored, judgedFactor, answer}
+use Rattle.cs_cholesky.specs.Factor.{judgedFactor}
 use Rattle.cs_cholesky.specs.Served.{Laid, Served}
 use Rattle.cs_matrix.proofs.Squaring.{early-matrix, valid-matrix}
 
@@ -54,9 +50,6 @@ laid us p i g h =
 
 -- ---- the columns, by their pointers
 module _ {us : List (List ℕ)} {p i : List ℕ} (l : Laid us p i) {k a e : ℕ} (h : k < length us) (x : a ≡ getD p k 0) (y : e ≡ getD p (k + 1) 0) where
-  pub laid-start : a ≡ entries (take k us)
-  laid-start = x ∙ l .pointed .at k (omega arith)
-
   pub laid-size : e ≡ a + length (getD us k [])
   laid-size = omega (arith, l .pointed .at k (omega arith), l .pointed .at (k + 1) (omega arith), entries-more us k h)
 

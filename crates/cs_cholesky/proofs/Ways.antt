@@ -1,22 +1,19 @@
 -- What a factoring answers and leaves at each of its ways out. Its number is the lowest of 1 to 8 and of those behind them, `rest`.
 -- Assumes nothing.
 use mathlib.Core.Path.{_≡_, refl, sym, ap, _∙_}
-use mathlib.Core.Bool.{Bool, true, false, not, cond}
-use mathlib.Core.List.{List, [], _∷_, _++_}
+use mathlib.Core.Bool.{Bool, cond}
+use mathlib.Core.List.{List, _++_}
 use mathlib.Core.Logic.{_⊎_, ⊎-elim}
-use Prim.Native.Nat.{ℕ, zero, suc, _≤_, _<_}
+use Prim.Native.Nat.{ℕ, _≤_, _<_}
 use native.Mathlib.Omega.{arith}
 use lib.Dec.{eqb}
 use lib.Ieee.{Float}
 use lib.ListN.{length}
-use borrow.Author.Tests.{eq-eqb, ne-eqb}
-use Rattle.lists.specs.Calls.{lowest, none, Scratch, narrow, wiped, Lent, lent, outputs, worked, leaves}
-use Rattle.lists.proofs.Bools.{eq-or-ne}
-use Rattle.lists.proofs.Calls.{Under, under-both, lowest-under, Early, below-7, first, then, then-under, left-alone, late, done, blanked}
+use borrow.Author.Tests.{ne-eqb}
+use Rattle.lists.specs.Calls.{lowest, none, Scratch, wiped, lent, worked, leaves}
+use Rattle.lists.proofs.Calls.{Under, under-both, lowest-under, first, then-under, left-alone, late, done, blanked}
 use Rattle.cs_matrix.specs.Matrix.{Matrix, needed, judgedSquareMatrix}
-use Rattle.cs_tree.specs.Pattern.{Analysis, analysed}
-use Rattle.cs_pattern.specs.Columns.{columns}
-use Rattle.cs_pattern.specs.Compare.{same, tight}
+use Rattle.cs_tree.specs.Pattern.{Analysis}
 use Rattle.cs_cholesky.specs.declared.Factored.{Factored}
 use Rattle.cs_cholesky.specs.Factor.{Outcome, factored, judgedFactor, answer, written}
 use Rattle.cs_matrix.proofs.Squaring.{early-matrix}

@@ -1,12 +1,12 @@
 -- What both factorings share: the numbers, the columns in turn until a pivot stops them, and the answer. Document 01,
 -- "Factorings" and "Refusal numbers". Assumes nothing.
-use mathlib.Core.Bool.{Bool, true, false, not, cond}
+use mathlib.Core.Bool.{Bool, not, cond}
 use mathlib.Core.List.{List, [], _∷_, _++_, flatten}
 use Prim.Native.Nat.{ℕ, zero, suc, _+_}
 use lib.Dec.{eqb}
 use lib.Ieee.{Float, lt}
-use lib.ListN.{length, replicate}
-use Rattle.lists.specs.Calls.{lowest, onto, none, Scratch, narrow, Lent}
+use lib.ListN.{replicate}
+use Rattle.lists.specs.Calls.{onto, none, Scratch, narrow}
 use Rattle.cs_matrix.specs.Matrix.{Matrix, judgedSquareMatrix, needed}
 use Rattle.cs_tree.specs.Pattern.{Analysis, analysed}
 use Rattle.cs_pattern.specs.Columns.{columns}

@@ -1,21 +1,20 @@
 -- The loop that writes a matrix column by column, and what a slice holds while one column is written to it. Assumes nothing.
 use mathlib.Core.Path.{_≡_, refl, sym, ap, _∙_}
-use mathlib.Core.Bool.{Bool}
 use mathlib.Core.List.{List, [], _∷_, _++_, append-assoc, append-nil}
 use mathlib.Core.Logic.{⊎-elim}
-use Prim.Native.Nat.{ℕ, zero, suc, _+_, _-_, _≤_, _<_}
+use Prim.Native.Nat.{ℕ, _+_, _-_, _≤_, _<_}
 use native.Mathlib.Nat.{eq-or-lt-of-le}
 use native.Mathlib.Omega.{arith}
 use lib.Ieee.{Float}
-use lib.ListN.{length, getD, set, take, drop, length-append, length-set, length-take, take-append-drop}
-use lib.Seq.{length-take-le, getD-set-same, getD-set-other, drop-drop, take-at}
+use lib.ListN.{length, getD, set, take, drop, length-append, length-set, take-append-drop}
+use lib.Seq.{length-take-le, getD-set-same, getD-set-other, drop-drop}
 use Rattle.lists.specs.Calls.{onto}
 use Rattle.lists.specs.Parts.{placed}
 use Rattle.lists.specs.Tables.{table}
 use Rattle.lists.proofs.Laying.{onto-placed}
 use Rattle.lists.proofs.Parts.{onto-more, length-onto, onto-none, front}
 use Rattle.lists.proofs.Tables.{length-table, getD-table}
-use Rattle.cs_matrix.specs.Matrix.{Stored, stored, written}
+use Rattle.cs_matrix.specs.Matrix.{stored, written}
 use Rattle.cs_columns.specs.Columns.{joined, withColumns, laid}
 use Rattle.cs_columns.proofs.Joining.{joined-none, joined-more, length-more, joined-grows, joined-alike}
 

@@ -1,18 +1,17 @@
 -- Two operands judged together, and number 7 of a result that is written column by column. Assumes nothing.
 use mathlib.Core.Path.{_≡_, refl, sym, _∙_}
-use mathlib.Core.Bool.{Bool, true, false, not, _||_}
-use mathlib.Core.Logic.{⊎-elim}
+use mathlib.Core.Bool.{Bool, true, false, _||_}
 use Prim.Native.Nat.{ℕ, _+_, _≤_, _<_}
 use native.Mathlib.Omega.{arith}
 use lib.Dec.{ltb}
 use lib.ListN.{length}
 use borrow.Author.Tests.{lt-ltb, le-ltb, ltb-false}
 use Rattle.lists.specs.Calls.{lowest, both, disagree, lower}
-use Rattle.lists.proofs.Bools.{not-holds, passed-over, or-false, le-or-lt}
+use Rattle.lists.proofs.Bools.{passed-over, or-false}
 use Rattle.lists.proofs.Calls.{Early, From, lowest-both, lower-alone, lower-none}
 use Rattle.cs_matrix.specs.Matrix.{Matrix, Stored, judgedPattern, judged, short, shortBy, Valid}
 use Rattle.cs_matrix.proofs.Refusing.{from-judged, from-disagree}
-use Rattle.cs_matrix.proofs.Rooms.{Room, room, short-is}
+use Rattle.cs_matrix.proofs.Rooms.{room}
 use Rattle.cs_matrix.proofs.Validity.{valid}
 use Rattle.cs_columns.specs.Columns.{judgedTwo, shortFor}
 

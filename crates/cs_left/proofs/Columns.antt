@@ -1,18 +1,15 @@
 -- The loops of src/column.rt. Assumes nothing.
 use mathlib.Core.Path.{_≡_, refl, sym, ap, _∙_}
-use mathlib.Core.Bool.{Bool, true, false, cond}
 use mathlib.Core.List.{List, [], _∷_, _++_, map}
-use mathlib.Core.Logic.{⊎-elim}
-use Prim.Native.Nat.{ℕ, zero, suc, _+_, _-_, _≤_, _<_}
+use Prim.Native.Nat.{ℕ, _+_, _-_, _≤_, _<_}
 use native.Mathlib.Numerals.{add-one}
 use native.Mathlib.Omega.{arith}
-use lib.Dec.{leb, ltb}
 use lib.Ieee.{Float, nan, binary64, div}
-use lib.ListN.{length, getD, set, take, drop, length-set, length-take, length-map}
-use lib.Seq.{getD-set-same, getD-set-other, take-suc, take-all}
-use borrow.Author.Tests.{le-leb, lt-leb, lt-ltb, le-ltb}
+use lib.ListN.{length, getD, set, take, length-set, length-take, length-map}
+use lib.Seq.{getD-set-other, take-suc, take-all}
+use borrow.Author.Tests.{le-leb, lt-leb}
 use Rattle.lists.specs.Calls.{onto, none}
-use Rattle.lists.specs.Folds.{along, over}
+use Rattle.lists.specs.Folds.{along}
 use Rattle.lists.proofs.Chosen.{map-more}
 use Rattle.lists.proofs.Entries.{Passing, passing-turn}
 use Rattle.lists.proofs.Folds.{Along, along-start, along-turn, along-end}

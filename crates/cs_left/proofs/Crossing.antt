@@ -1,16 +1,15 @@
 -- The columns before k that U's column k names: from `next` on they are read, which is where row k and those behind it stand.
 -- Assumes nothing.
 use mathlib.Core.Path.{_≡_, refl, sym, ap, _∙_}
-use mathlib.Core.Bool.{Bool, true, false, cond}
-use mathlib.Core.List.{List, [], _∷_, _++_}
-use mathlib.Core.Logic.{⊎-elim}
+use mathlib.Core.Bool.{true, cond}
+use mathlib.Core.List.{List, [], _∷_}
 use Prim.Native.Nat.{ℕ, zero, suc, _+_, _-_, _≤_, _<_}
 use native.Mathlib.Omega.{arith}
-use lib.Dec.{leb, ltb, eqb}
-use lib.Ieee.{Float, nan, binary64, neg}
-use lib.ListN.{length, getD, set, take, drop, length-set}
+use lib.Dec.{ltb}
+use lib.Ieee.{Float, nan, neg}
+use lib.ListN.{length, getD, set, drop, length-set}
 use lib.Seq.{getD-set-other}
-use borrow.Author.Tests.{le-leb, lt-leb, lt-ltb, le-ltb, eq-eqb, ne-eqb}
+use borrow.Author.Tests.{le-leb, lt-leb, lt-ltb, le-ltb}
 use Rattle.lists.specs.Entries.{Entries, plusAt}
 use Rattle.lists.specs.Folds.{along, over}
 use Rattle.lists.specs.Order.{rises}
@@ -22,7 +21,7 @@ use Rattle.lists.proofs.Positions.{part-drop}
 use Rattle.cs_matrix.specs.Matrix.{column, valueAt}
 use Rattle.cs_matrix.proofs.Values.{value-there}
 use Rattle.cs_left.specs.Left.{addAt, addColumn}
-use Rattle.cs_left.specs.Steps.{addHeld, advance, Cut, Next, Crossing, Crossings}
+use Rattle.cs_left.specs.Steps.{addHeld, advance, Crossing, Crossings}
 
 -- ---- a column that is cut at row k
 -- the rows before it are passed over

@@ -1,16 +1,16 @@
 -- `next`, from column k to the next: where row k stands, it goes on by one. Assumes nothing.
-use mathlib.Core.Path.{_≡_, refl, sym, ap, _∙_}
+use mathlib.Core.Path.{_≡_, refl, ap, _∙_}
 use mathlib.Core.Bool.{Bool, true, false, cond}
-use mathlib.Core.List.{List, [], _∷_, List·Memᴰ, List·Memᴰ·head, List·Memᴰ·tail, List·Memᴰ·not-nil, List·Memᴰ·cases-cons}
+use mathlib.Core.List.{List, List·Memᴰ, List·Memᴰ·not-nil, List·Memᴰ·cases-cons}
 use mathlib.Core.Logic.{⊎-elim}
-use Prim.Native.Nat.{ℕ, zero, suc, _+_, _-_, _≤_, _<_}
+use Prim.Native.Nat.{ℕ, _+_, _-_, _≤_, _<_}
 use native.Mathlib.Omega.{arith}
 use lib.Dec.{ltb}
 use lib.ListN.{length, getD, set, length-set}
 use lib.Seq.{getD-set-same, getD-set-other}
 use borrow.Author.Tests.{lt-ltb}
 use Rattle.lists.specs.Folds.{along}
-use Rattle.lists.specs.Order.{rises, Rising, Once, no-more, one-more}
+use Rattle.lists.specs.Order.{Rising, Once, no-more, one-more}
 use Rattle.lists.proofs.Bools.{le-or-lt, eq-or-ne}
 use Rattle.lists.proofs.Ordering.{rises-apart, rising-rises}
 use Rattle.lists.proofs.Spots.{Spot, spot, member-at}

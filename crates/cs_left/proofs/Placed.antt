@@ -1,28 +1,26 @@
 -- Which rows column k touches: each has its place in L's column k. Assumes nothing.
-use mathlib.Core.Path.{_≡_, refl, sym, ap, _∙_}
+use mathlib.Core.Path.{_≡_, refl, ap, _∙_}
 use mathlib.Core.Bool.{Bool, true, false, not, cond, _&&_, true≢false}
 use mathlib.Core.List.{List, [], _∷_, List·Memᴰ, List·Memᴰ·not-nil}
 use mathlib.Core.Logic.{⊎-elim}
-use Prim.Native.Nat.{ℕ, zero, suc, _+_, _-_, _≤_, _<_}
+use Prim.Native.Nat.{ℕ, _-_, _≤_, _<_}
 use native.Mathlib.Omega.{arith}
 use lib.Dec.{leb, ltb}
 use lib.Ieee.{Float, nan, lt, binary64, ofBits, add, mul, neg}
-use lib.ListN.{length, getD, set, replicate, getD-replicate}
+use lib.ListN.{getD, set, replicate, getD-replicate}
 use lib.Seq.{getD-set-other}
 use borrow.Author.Tests.{lt-ltb, leb-true, ltb-true}
 use Rattle.lists.specs.Calls.{none}
-use Rattle.lists.specs.Choices.{someOf, some, chosen}
-use Rattle.lists.specs.Folds.{along, over}
-use Rattle.lists.specs.Order.{lists, Rising}
-use Rattle.lists.proofs.Bools.{not-both, le-or-lt, not-holds}
+use Rattle.lists.specs.Choices.{some, chosen}
+use Rattle.lists.specs.Folds.{over}
+use Rattle.lists.specs.Order.{lists}
+use Rattle.lists.proofs.Bools.{not-both, le-or-lt}
 use Rattle.lists.proofs.Chosen.{someOf-member, member-chosen}
 use Rattle.lists.proofs.Members.{listed-or-not}
-use Rattle.lists.proofs.Ordering.{lists-mean}
 use Rattle.lists.proofs.Positions.{along-keeps, over-keeps}
-use Rattle.cs_matrix.specs.Matrix.{pattern, matrix, column, valueAt, Valid}
+use Rattle.cs_matrix.specs.Matrix.{pattern, matrix, column, valueAt}
 use Rattle.cs_tree.specs.Least.{In}
 use Rattle.cs_tree.specs.Pattern.{upper, lower}
-use Rattle.cs_tree.specs.Tree.{root}
 use Rattle.cs_tree.proofs.Laws.{fill-upper}
 use Rattle.cs_tree.proofs.Promises.{filled}
 use Rattle.cs_pattern.specs.Columns.{columns}

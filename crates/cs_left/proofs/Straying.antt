@@ -1,18 +1,18 @@
 -- The loops of src/stray.rt. Assumes nothing.
 use mathlib.Core.Path.{_≡_, refl, sym, ap, _∙_}
-use mathlib.Core.Bool.{Bool, true, false, not, cond, _&&_, _||_}
+use mathlib.Core.Bool.{Bool, true, false, not, _&&_, _||_}
 use mathlib.Core.List.{List, [], _∷_, List·Memᴰ}
 use mathlib.Core.Logic.{_⊎_, inl, inr, ⊎-elim}
-use Prim.Native.Nat.{ℕ, zero, suc, _+_, _-_, _≤_, _<_}
+use Prim.Native.Nat.{ℕ, suc, _+_, _-_, _≤_, _<_}
 use native.Mathlib.Omega.{arith}
 use lib.Dec.{ltb}
 use lib.ListN.{length, getD, drop}
 use borrow.Author.Tests.{lt-ltb, le-ltb}
-use Rattle.lists.specs.Choices.{someOf, some, chosen, Found}
+use Rattle.lists.specs.Choices.{someOf, some, chosen}
 use Rattle.lists.specs.Order.{lists, rises}
 use Rattle.lists.specs.Parts.{part}
 use Rattle.lists.proofs.Bools.{le-or-lt, and-false}
-use Rattle.lists.proofs.Choices.{Upward, upward-start, upward-turn, upward-found, upward-end}
+use Rattle.lists.proofs.Choices.{Upward, upward-turn, upward-found, upward-end}
 use Rattle.lists.proofs.Members.{listed-or-not}
 use Rattle.lists.proofs.Ordering.{rises-apart, member-lists}
 use Rattle.lists.proofs.Parts.{left-at, left-none}
@@ -139,12 +139,6 @@ module _ {k : ℕ} {p i lp li next : List ℕ} (w : Seeks k p i lp li next) wher
 
   pub seeks-both : Rises (w .n) p i × Rises (w .n) lp li
   seeks-both = (w .sought .stored, w .sought .held)
-
-  pub seeks-few : k + 1 ≤ 65535
-  seeks-few = omega (arith, w .here, w .sought .stored .few)
-
-  pub seeks-next : k < length next
-  seeks-next = omega (arith, w .here, w .sought .room)
 
   -- all rows of the column are met
   pub seeks-none : {a e : ℕ} → a ≡ getD next k 0 → e ≡ getD p (k + 1) 0 → a ≡ e → false ≡ strayIn k (column lp k li) (column p k i)

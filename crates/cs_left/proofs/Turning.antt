@@ -2,14 +2,14 @@
 -- the place of its first row at or past k. Assumes nothing.
 use mathlib.Core.Path.{_≡_, refl, sym, ap, _∙_}
 use mathlib.Core.Bool.{Bool, true, false, cond}
-use mathlib.Core.List.{List, [], _∷_, _++_, append-assoc, flatten, List·Memᴰ, List·Memᴰ·head, List·Memᴰ·tail, List·Memᴰ·not-nil, List·Memᴰ·cases-cons}
+use mathlib.Core.List.{List, [], _∷_, _++_, append-assoc, flatten, List·Memᴰ, List·Memᴰ·not-nil, List·Memᴰ·cases-cons}
 use mathlib.Core.Logic.{_⊎_, ⊎-elim}
-use Prim.Native.Nat.{ℕ, zero, suc, _+_, _-_, _≤_, _<_}
+use Prim.Native.Nat.{ℕ, _+_, _-_, _≤_, _<_}
 use native.Mathlib.Omega.{arith}
 use lib.Dec.{ltb}
-use lib.Ieee.{Float, nan, lt, binary64}
+use lib.Ieee.{Float, nan, lt}
 use lib.ListN.{length, getD, set, take, drop, replicate, length-set, length-replicate, length-append, take-append-drop, getD-replicate}
-use lib.Seq.{take-all, take-nil, take-append-le, take-append-seam, getD-set-same, getD-set-other, ext-getD}
+use lib.Seq.{take-all, take-append-le, take-append-seam, getD-set-same, getD-set-other, ext-getD}
 use borrow.Author.Tests.{ltb-true}
 use Rattle.lists.specs.Calls.{none}
 use Rattle.lists.specs.Entries.{Entries}
@@ -19,10 +19,10 @@ use Rattle.lists.specs.Parts.{part, placed}
 use Rattle.lists.proofs.Bools.{le-or-lt}
 use Rattle.lists.proofs.Members.{listed-or-not}
 use Rattle.lists.proofs.Ordering.{rising-once, rising-rises}
-use Rattle.lists.proofs.Parts.{length-part, length-placed}
+use Rattle.lists.proofs.Parts.{length-placed}
 use Rattle.lists.proofs.Places.{placed-after}
-use Rattle.cs_matrix.specs.Matrix.{pattern, matrix, column, Valid}
-use Rattle.cs_matrix.proofs.Pointers.{climb, at-most, length-column, getD-column}
+use Rattle.cs_matrix.specs.Matrix.{pattern, matrix, column}
+use Rattle.cs_matrix.proofs.Pointers.{at-most, length-column, getD-column}
 use Rattle.cs_tree.specs.Pattern.{upper, lower, entries}
 use Rattle.cs_pattern.specs.Columns.{columns}
 use Rattle.cs_cholesky.specs.declared.Factored.{Factored}
@@ -34,7 +34,7 @@ use Rattle.root.specs.Root.{rootOf}
 use Rattle.lists.proofs.Spots.{member-at, along-same}
 use Rattle.lists.proofs.Positions.{once-apart, drop-same, flatten-last, part-flat, along-keeps}
 use Rattle.cs_left.specs.Left.{putAt, addColumn, addColumns, leftX, leftStep, quotients, left, strays}
-use Rattle.cs_left.specs.Steps.{zeroAt, addHeld, advance, Places, Cut, Next, Crossing, Crossings, Within, Gathers, Finishes, Asked, Ended}
+use Rattle.cs_left.specs.Steps.{zeroAt, addHeld, advance, Next, Crossing, Within, Gathers, Finishes, Asked, Ended}
 use Rattle.cs_left.proofs.Columns.{length-quotients}
 use Rattle.cs_left.proofs.Cutting.{cut-here, cut-first, next-on, next-stays, length-advances, advance-missing, advance-hit}
 use Rattle.cs_left.proofs.Placed.{in-lower, x-off, diagonal-in}

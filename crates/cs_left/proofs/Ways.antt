@@ -1,16 +1,14 @@
 -- What `decompose_left_looking` answers and leaves, at each of its ways out. Assumes nothing.
 use mathlib.Core.Path.{_≡_, refl, sym, ap, _∙_}
 use mathlib.Core.Bool.{Bool, true, false, cond}
-use mathlib.Core.List.{List, [], _∷_, _++_}
-use mathlib.Core.Logic.{⊎-elim}
-use Prim.Native.Nat.{ℕ, zero, suc, _+_, _-_, _≤_, _<_}
+use mathlib.Core.List.{List, [], _∷_}
+use Prim.Native.Nat.{ℕ, _+_, _-_, _≤_}
 use native.Mathlib.Omega.{arith}
 use lib.Dec.{eqb}
 use lib.Ieee.{Float}
 use lib.ListN.{length, getD}
-use Rattle.lists.specs.Calls.{lowest, none, Scratch, scratch, cleared, wiped, Lent, lent, worked, leaves}
+use Rattle.lists.specs.Calls.{lowest, none, Scratch, scratch, cleared, wiped, lent, worked, leaves}
 use Rattle.lists.specs.Choices.{some, chosen}
-use Rattle.lists.specs.Order.{rises}
 use Rattle.lists.specs.Parts.{part, placed}
 use Rattle.lists.proofs.Calls.{wiped-each}
 use Rattle.lists.proofs.Chosen.{chosen-alike}

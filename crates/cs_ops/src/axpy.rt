@@ -1,7 +1,7 @@
 // Axpy with a sparse x on a dense y: α x + β y.
 ghost use mathlib.Core.Path.{_≡_};
 ghost use Rattle.lists.specs.Calls.{outputs};
-ghost use Rattle.cs_matrix.specs.Matrix.{vector, ValidVector};
+ghost use Rattle.cs_matrix.specs.Matrix.{vector};
 ghost use Rattle.cs_ops.specs.Axpy.{assigned, added, axpy as axpyOf, axpyNumber, Fitting};
 use crate::scale::times;
 use cs_matrix::check::check_vector;

@@ -1,5 +1,5 @@
 -- The loop of `accumulate_plain`. Assumes nothing.
-use mathlib.Core.Path.{_≡_, refl, sym, _∙_}
+use mathlib.Core.Path.{_≡_, _∙_}
 use mathlib.Core.Bool.{true}
 use mathlib.Core.List.{List}
 use Prim.Native.Nat.{ℕ, _+_, _≤_, _<_}
@@ -11,9 +11,9 @@ use Rattle.lists.specs.Folds.{over}
 use Rattle.lists.specs.Order.{rises}
 use Rattle.lists.specs.Parts.{part}
 use Rattle.lists.proofs.Folds.{Over, over-start, over-turn, over-end}
-use Rattle.lists.proofs.Parts.{length-part}
+use Rattle.lists.proofs.Parts.{part-below, length-part}
 use Rattle.cs_matrix.specs.Matrix.{Matrix, matrix}
-use Rattle.cs_matrix.proofs.Pointers.{Between, between, column-is, getD-column}
+use Rattle.cs_matrix.proofs.Pointers.{Between, between, column-is}
 use Rattle.cs_product.specs.Product.{addColumn}
 use Rattle.cs_product.specs.Steps.{Plain}
 
@@ -51,17 +51,11 @@ module _ (nrows ncols : ℕ) (p i : List ℕ) (v : List Float) (rows : List ℕ)
         pub in-v : e ≤ length v
         in-v = omega (arith, handed .inside, s .ask .valid .v-long)
 
-        rows-below : (q : ℕ) → q < length (part b e i) → getD (part b e i) q 0 < nrows
-        rows-below q l =
-            let n = length-part b e i (handed .inside) in
-            rw (column-is handed i, getD-column p c i q 0 (omega (arith, n, f, g)))
-            (s .ask .valid .pattern .below (getD p c 0 + q) (omega (arith, n, f, g, handed .inside)))
-
         pub up-asks : Entries (length x) (part b e i) (part b e v) × (rises (part b e i) ≡ true)
         up-asks = (
           record {
             alike = omega (arith, length-part b e v in-v, length-part b e i (handed .inside));
-            below = λ q l. omega (arith, rows-below q l, s .long, s .ask .x-long);
+            below = λ q l. omega (arith, part-below b e nrows i (handed .inside) (s .ask .valid .pattern .below) q l, s .long, s .ask .x-long);
           },
           rw (column-is handed i) (s .ask .valid .pattern .rise c col-below),
         )

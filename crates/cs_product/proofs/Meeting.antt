@@ -20,9 +20,9 @@ use Rattle.lists.specs.Parts.{part}
 use Rattle.lists.proofs.Bools.{eq-or-ne, not-both, or-none, or-false}
 use Rattle.lists.proofs.Chosen.{chosen-within}
 use Rattle.lists.proofs.Folds.{Over, over-start, over-turn, over-end}
-use Rattle.lists.proofs.Parts.{length-part}
+use Rattle.lists.proofs.Parts.{part-below, length-part}
 use Rattle.cs_matrix.specs.Matrix.{Matrix, matrix, Valid}
-use Rattle.cs_matrix.proofs.Pointers.{Between, between, column-is, getD-column}
+use Rattle.cs_matrix.proofs.Pointers.{Between, between, column-is}
 use Rattle.lists.proofs.Skipping.{lists-nowhere}
 use Rattle.cs_product.specs.Product.{addColumn}
 use Rattle.cs_product.specs.Steps.{Met, Fresh, Adding, Starting}
@@ -200,14 +200,8 @@ module _ (nrows ncols : ℕ) (p i : List ℕ) (v : List Float) (stamp : ℕ) (ro
         pub in-v : e ≤ length v
         in-v = omega (arith, handed .inside, s .valid .v-long)
 
-        column-below : (q : ℕ) → q < length (part b e i) → getD (part b e i) q 0 < nrows
-        column-below q l =
-            let n = length-part b e i (handed .inside) in
-            rw (column-is handed i, getD-column p c i q 0 (omega (arith, n, f, g)))
-            (s .valid .pattern .below (getD p c 0 + q) (omega (arith, n, f, g, handed .inside)))
-
         pub accumulating-asks : Adding nrows stamp (part b e i) (part b e v) mark met x many
-        accumulating-asks = record { alike = omega (arith, length-part b e v in-v, length-part b e i (handed .inside)); below = column-below; met-so-far = s .met-now }
+        accumulating-asks = record { alike = omega (arith, length-part b e v in-v, length-part b e i (handed .inside)); below = part-below b e nrows i (handed .inside) (s .valid .pattern .below); met-so-far = s .met-now }
 
         pub accumulating-turn : {mark′ met′ : List ℕ} {x′ : List Float} {next : ℕ} → x′ ≡ over (plusAt (getD vals k nan)) (part b e i) (part b e v) x → Met nrows stamp mark′ met′ x′ next → Accumulating x₀ mark′ met′ x′ next (k + 1)
         unfolding addColumn

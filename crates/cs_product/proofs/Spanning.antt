@@ -15,6 +15,7 @@ use Rattle.lists.specs.Choices.{chosen}
 use Rattle.lists.specs.Entries.{plusAt}
 use Rattle.lists.specs.Folds.{along, over}
 use Rattle.lists.specs.Order.{rises}
+use Rattle.lists.proofs.Entries.{over-other}
 use Rattle.lists.proofs.Folds.{Along, along-start, along-turn, along-end}
 use Rattle.lists.proofs.HowMany.{chosen-but, chosen-between}
 use Rattle.lists.proofs.Ordering.{rises-apart}
@@ -149,15 +150,9 @@ module _ (n : ℕ) where
   over-more beta (r ∷ rows) (v ∷ vals) w = omega (arith, at-more beta r v w, over-more beta rows vals (plusAt beta r v w))
 
 -- ---- what is not added to
-at-keeps : (beta : Float) (k : ℕ) (v : Float) (w : List Float) (r : ℕ) → (k ≡ r → ⊥) → getD (plusAt beta k v w) r nan ≡ getD w r nan
-unfolding plusAt
-at-keeps beta k v w r d = getD-set-other w k r (add binary64 (getD w k nan) (mul binary64 v beta)) nan (λ e. d (sym e))
-
 over-keeps : (beta : Float) (rows : List ℕ) (vals w : List Float) (r : ℕ) → ((q : ℕ) → q < length rows → getD rows q 0 ≡ r → ⊥) → getD (over (plusAt beta) rows vals w) r nan ≡ getD w r nan
-unfolding over
-over-keeps beta [] vals w r f = refl
-over-keeps beta (k ∷ rows) [] w r f = refl
-over-keeps beta (k ∷ rows) (v ∷ vals) w r f = over-keeps beta rows vals (plusAt beta k v w) r (λ q l. f (suc q) (omega arith)) ∙ at-keeps beta k v w r (f 0 (omega arith))
+unfolding plusAt
+over-keeps beta rows vals w r f = over-other nan (plusAt beta) r (λ z v x n. getD-set-other x z r _ nan n) rows vals f w
 
 module _ (a : Matrix) where
   abbrev rowsOf : ℕ → List ℕ

@@ -1,5 +1,4 @@
 // The rows that a column of the product can have: from the least first row to the largest last row of the columns of A that it takes.
-ghost use mathlib.Core.Path.{_≡_};
 ghost use Rattle.cs_matrix.specs.Matrix.{pattern};
 ghost use Rattle.cs_product.specs.Steps.{Within, Spanned};
 use lists::numbers::larger;

@@ -6,7 +6,7 @@ use native.Mathlib.Omega.{arith}
 use lib.Ieee.{Float}
 use lib.ListN.{length, getD}
 use Rattle.lists.specs.Parts.{part}
-use Rattle.lists.proofs.Parts.{length-part, getD-part}
+use Rattle.lists.proofs.Parts.{length-part, part-below as below-part}
 use Rattle.cs_matrix.specs.Matrix.{matrix, Valid, column, valueAt}
 use Rattle.cs_matrix.proofs.Pointers.{between, column-is}
 use Rattle.cs_solve.specs.Diagonal.{diagonal}
@@ -37,9 +37,7 @@ module _ {m n : ℕ} {p i : List ℕ} {v : List Float} (a : Valid (matrix m n p 
   part-alike = length-part s e v (b .inside-v) ∙ sym (length-part s e i (b .inside))
 
   pub part-below : (k : ℕ) → k < length (part s e i) → getD (part s e i) k 0 < m
-  part-below k h =
-      let l = length-part s e i (b .inside) in
-      rw (getD-part s e i k 0 (omega arith)) (a .pattern .below (s + k) (omega (arith, b .inside)))
+  part-below k h = below-part s e m i (b .inside) (a .pattern .below) k h
 
 -- the value at row j of that part is the diagonal
 pub diagonal-is : (m n : ℕ) {p i : List ℕ} {v : List Float} {j s e : ℕ} {d : Float} → Handed p i v j s e → d ≡ valueAt j (part s e i) (part s e v) → d ≡ diagonal (matrix m n p i v) j

@@ -1,7 +1,6 @@
 // The solve with the matrix transposed, in place.
 ghost use mathlib.Core.Path.{_≡_};
-ghost use lib.ListN.{length, getD, set};
-ghost use lib.Ieee.{nan};
+ghost use lib.ListN.{length, set};
 ghost use Rattle.lists.specs.Calls.{outputs};
 ghost use Rattle.lists.specs.Choices.{lastOr};
 ghost use Rattle.lists.specs.Folds.{over};

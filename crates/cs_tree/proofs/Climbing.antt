@@ -1,7 +1,7 @@
 -- The loops of a tree's column: the climb from one row, then row by row. Assumes nothing.
 use mathlib.Core.Path.{_≡_, refl, sym, ap, _∙_}
-use mathlib.Core.List.{List, []}
-use mathlib.Core.Logic.{⊎-elim, _≢_}
+use mathlib.Core.List.{List}
+use mathlib.Core.Logic.{⊎-elim}
 use Prim.Native.Nat.{ℕ, zero, suc, _+_, _-_, _≤_, _<_}
 use native.Mathlib.Omega.{arith}
 use lib.ListN.{length, getD, set, length-set}
@@ -9,7 +9,7 @@ use lib.Seq.{getD-set-same, getD-set-other}
 use Rattle.lists.proofs.Bools.{eq-or-ne}
 use Rattle.lists.proofs.Members.{getD-any}
 use Rattle.lists.proofs.Folds.{Along, along-start, along-turn, along-end}
-use Rattle.cs_tree.specs.Tree.{root, Forest, forest, climb, climbs}
+use Rattle.cs_tree.specs.Tree.{root, forest, climb, climbs}
 use Rattle.cs_tree.specs.Steps.{Above, Climbs}
 use Rattle.cs_tree.proofs.Steps.{climb-stop, climb-root, climb-on}
 

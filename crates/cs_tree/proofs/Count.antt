@@ -1,16 +1,16 @@
 -- How many entries: a column of U has at most k + 1, L has as many as U, and the pointers are running sums. Assumes nothing.
-use mathlib.Core.Path.{_≡_, refl, sym, ap, ap₂, subst, _∙_}
-use mathlib.Core.Logic.{_⊎_, inl, inr, _≢_, _↔_}
+use mathlib.Core.Path.{_≡_, refl, ap, ap₂, _∙_}
+use mathlib.Core.Logic.{inl, inr}
 use mathlib.Core.Bool.{Bool, true, false}
-use mathlib.Core.List.{List, [], _∷_, _++_, List·Memᴰ, List·Memᴰ·head, List·Memᴰ·tail, List·Memᴰ·not-nil, List·Memᴰ·cases-cons}
+use mathlib.Core.List.{List, [], _∷_, List·Memᴰ, List·Memᴰ·head, List·Memᴰ·tail}
 use Prim.Native.Nat.{ℕ, zero, suc, _+_, _≤_, _<_}
 use native.Mathlib.Omega.{arith}
-use native.Mathlib.Decide.{decLt, decLe, ℕ-discrete}
+use native.Mathlib.Decide.{ℕ-discrete}
 use lib.ListN.{getD, length, take}
 use Rattle.lists.specs.Order.{lists, Once, no-more, one-more}
-use Rattle.lists.specs.Tables.{from, table}
+use Rattle.lists.specs.Tables.{from}
 use Rattle.cs_tree.specs.Tree.{root}
-use Rattle.cs_tree.specs.Pattern.{upperColumn, upper, across, transposed, lower, starts, entries}
+use Rattle.cs_tree.specs.Pattern.{upperColumn, upper, across, lower, starts, entries}
 use Rattle.lists.proofs.Members.{listed-or-not, lists-same, lists-other}
 use Rattle.cs_tree.proofs.Upper.{listed-filled, no-repeats}
 use Rattle.cs_tree.proofs.Laws.{upper-at, fill-upper}

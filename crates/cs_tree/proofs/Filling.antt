@@ -2,18 +2,17 @@
 use mathlib.Core.Path.{_≡_, refl, sym, ap, _∙_}
 use mathlib.Core.List.{List, [], _∷_, _++_, flatten}
 use mathlib.Core.Logic.{⊎-elim}
-use Prim.Native.Nat.{ℕ, zero, suc, _+_, _-_, _≤_, _<_, _^_, min}
-use native.Mathlib.Nat.{eq-or-lt-of-le}
+use Prim.Native.Nat.{ℕ, suc, _+_, _-_, _≤_, _<_, min}
 use native.Mathlib.Numerals.{add-one}
 use native.Mathlib.Omega.{arith}
-use lib.ListN.{length, getD, set, take, length-set, length-append}
+use lib.ListN.{length, getD, set, take, length-set}
 use lib.Seq.{getD-set-same, getD-set-other, take-suc, take-all, ext-getD}
 use Rattle.lists.specs.Calls.{onto}
 use Rattle.lists.specs.Parts.{part, placed}
 use Rattle.lists.proofs.Bools.{eq-or-ne}
 use Rattle.lists.proofs.Laying.{onto-placed}
 use Rattle.lists.proofs.Parts.{onto-none, length-onto, length-part}
-use Rattle.cs_tree.specs.Tree.{root, tree}
+use Rattle.cs_tree.specs.Tree.{root}
 use Rattle.cs_tree.specs.Pattern.{paths, upperColumn, upper, entries}
 use Rattle.cs_tree.specs.Steps.{Marks, Walks, Zeros, Given, Pointed, lengths}
 use Rattle.cs_tree.proofs.Count.{upperColumn-short}

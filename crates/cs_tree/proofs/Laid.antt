@@ -1,28 +1,28 @@
 -- Columns laid one behind the other: where each starts, what stands at each place, and the transpose as the entries sorted by
 -- their rows. Assumes nothing.
 use mathlib.Core.Path.{_≡_, refl, sym, ap, _∙_}
-use mathlib.Core.Bool.{Bool, true, false, cond}
-use mathlib.Core.List.{List, [], _∷_, _++_, append-nil, append-assoc, flatten, List·Memᴰ, List·Memᴰ·head, List·Memᴰ·tail, List·Memᴰ·not-nil, List·Memᴰ·cases-cons}
-use mathlib.Core.Logic.{_⊎_, inl, inr, ⊎-elim}
+use mathlib.Core.Bool.{cond}
+use mathlib.Core.List.{List, [], _∷_, _++_, flatten, List·Memᴰ, List·Memᴰ·head, List·Memᴰ·tail, List·Memᴰ·not-nil, List·Memᴰ·cases-cons}
+use mathlib.Core.Logic.{inl, inr}
 use Prim.Native.Nat.{ℕ, zero, suc, _+_, _-_, _≤_, _<_, _%_, _^_}
-use native.Mathlib.Nat.{add-zero, add-suc, suc-add}
+use native.Mathlib.Nat.{add-zero}
 use native.Mathlib.Numerals.{add-one}
 use native.Mathlib.Omega.{arith}
 use native.Mathlib.Decide.{ℕ-discrete}
 use lib.Dec.{eqb}
-use lib.ListN.{length, getD, take, drop, replicate, length-append, length-replicate, getD-replicate, List·getD-append}
-use lib.Seq.{getD-append-add, take-suc, take-all, take-at, ext-getD}
+use lib.ListN.{length, getD, take, replicate, length-append, length-replicate, getD-replicate, List·getD-append}
+use lib.Seq.{getD-append-add, take-suc}
 use borrow.Author.Tests.{eq-eqb, ne-eqb}
 use Rattle.lists.specs.Keys.{ofKey, byKey}
-use Rattle.lists.specs.Order.{lists, Once, no-more, one-more}
+use Rattle.lists.specs.Order.{Once, no-more, one-more}
 use Rattle.lists.specs.Sums.{sums}
 use Rattle.lists.specs.Tables.{from, table}
-use Rattle.lists.proofs.Members.{listed-or-not, lists-same, lists-other}
+use Rattle.lists.proofs.Members.{listed-or-not}
 use Rattle.lists.proofs.Positions.{flatten-last}
 use Rattle.lists.proofs.Tables.{length-table, getD-table, is-table}
 use Rattle.cs_tree.specs.Pattern.{starts, entries, across, transposed}
 use Rattle.cs_tree.specs.Steps.{lengths, numbers}
-use Rattle.cs_tree.proofs.Count.{length-starts, pointer-at}
+use Rattle.cs_tree.proofs.Count.{pointer-at}
 
 -- ---- how many entries
 pub length-laid : (us : List (List ℕ)) → length (flatten us) ≡ entries us

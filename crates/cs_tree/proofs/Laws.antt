@@ -1,22 +1,18 @@
 -- The theorems on the pattern, for a list of at most `root` columns. That rows rise and are below n is not needed. Assumes nothing.
-use mathlib.Core.Path.{_≡_, refl, sym, ap, subst, _∙_}
-use mathlib.Core.Logic.{_⊎_, inl, inr, _≢_, _↔_}
-use mathlib.Core.Bool.{true, false}
-use mathlib.Core.List.{List, [], _∷_, _++_, List·Memᴰ, List·Memᴰ·head, List·Memᴰ·tail, List·Memᴰ·not-nil, List·Memᴰ·cases-cons, Memᴰ·cast}
-use Prim.Native.Nat.{ℕ, zero, suc, _+_, _≤_, _<_}
-use native.Mathlib.Nat.{add-zero, add-suc, suc-add}
+use mathlib.Core.Path.{_≡_, refl, sym, _∙_}
+use mathlib.Core.Logic.{inl, inr}
+use mathlib.Core.List.{List, [], List·Memᴰ}
+use Prim.Native.Nat.{ℕ, _≤_, _<_}
 use native.Mathlib.Omega.{arith}
-use native.Mathlib.Decide.{decLt, decLe, ℕ-discrete}
+use native.Mathlib.Decide.{decLt, ℕ-discrete}
 use lib.ListN.{getD, length, List·getD-eq-default}
-use Rattle.lists.specs.Order.{lists, Once}
 use Rattle.lists.specs.Tables.{table}
 use Rattle.lists.proofs.Tables.{length-table, getD-table}
 use Rattle.cs_tree.specs.Tree.{root, tree}
-use Rattle.cs_tree.specs.Pattern.{upperColumn, upper, across, transposed, lower}
+use Rattle.cs_tree.specs.Pattern.{upperColumn, upper}
 use Rattle.cs_tree.specs.Least.{Fill, stored, cross, diag, IsParent}
-use Rattle.lists.proofs.Members.{listed-or-not}
-use Rattle.cs_tree.proofs.Rows.{Good, tree-good, in-cols, Entry, fill-entry, parent-filled, parent-least, parent-none}
-use Rattle.cs_tree.proofs.Upper.{listed-filled, filled-listed, no-repeats, upperColumn-out}
+use Rattle.cs_tree.proofs.Rows.{tree-good, in-cols, parent-filled, parent-least, parent-none}
+use Rattle.cs_tree.proofs.Upper.{listed-filled, filled-listed, upperColumn-out}
 
 -- ---- Fill is the least pattern with the stored upper entries that both rules keep
 pub fill-least : (cols : List (List ℕ)) (R : ℕ → ℕ → Type 0)
@@ -38,12 +34,6 @@ fill-upper cols (cross i l l′ a b) = (omega arith, fill-upper cols b .1)
 fill-upper cols (diag i e l a) = (omega arith, fill-upper cols a .1)
 
 module _ (cols : List (List ℕ)) (fits : length cols ≤ root) where
-  pub upperColumn-fill : (j k : ℕ) → List·Memᴰ j (upperColumn cols k) ↔ Fill cols j k
-  upperColumn-fill j k = (listed-filled cols fits j k, filled-listed cols fits j k)
-
-  pub upperColumn-distinct : (k : ℕ) → Once (upperColumn cols k)
-  upperColumn-distinct = no-repeats cols fits
-
   pub tree-parent : (i : ℕ) → IsParent (Fill cols) i (getD (tree cols) i root)
   unfolding IsParent
   tree-parent i =

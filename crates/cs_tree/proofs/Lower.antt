@@ -1,22 +1,19 @@
 -- L's columns: the transpose's members, that they rise, and how many there are. Assumes nothing.
-use mathlib.Core.Path.{_≡_, refl, sym, ap, ap₂, subst, _∙_}
-use mathlib.Core.Logic.{_⊎_, inl, inr, _≢_, _↔_}
-use mathlib.Core.Bool.{Bool, true, false}
-use mathlib.Core.List.{List, [], _∷_, _++_, List·Memᴰ, List·Memᴰ·head, List·Memᴰ·tail, List·Memᴰ·not-nil, List·Memᴰ·cases-cons, Memᴰ·cast}
+use mathlib.Core.Path.{_≡_, _∙_}
+use mathlib.Core.Logic.{_⊎_, inl, inr, _↔_}
+use mathlib.Core.Bool.{true, false}
+use mathlib.Core.List.{List, [], _∷_, List·Memᴰ, List·Memᴰ·head, List·Memᴰ·tail, List·Memᴰ·not-nil, List·Memᴰ·cases-cons, Memᴰ·cast}
 use Prim.Native.Nat.{ℕ, zero, suc, _+_, _≤_, _<_}
-use native.Mathlib.Nat.{add-zero, add-suc, suc-add}
 use native.Mathlib.Omega.{arith}
-use native.Mathlib.Decide.{decLt, decLe, ℕ-discrete}
-use lib.ListN.{getD, length, List·getD-eq-default}
-use lib.Dec.{eqb}
+use lib.ListN.{getD, length}
 use Rattle.lists.specs.Order.{lists, Rising, flat, step}
 use Rattle.lists.proofs.Tables.{length-table, getD-table}
-use Rattle.cs_tree.specs.Tree.{root, tree}
-use Rattle.cs_tree.specs.Pattern.{upperColumn, upper, across, transposed, lower}
+use Rattle.cs_tree.specs.Tree.{root}
+use Rattle.cs_tree.specs.Pattern.{upperColumn, upper, across, lower}
 use Rattle.cs_tree.specs.Least.{Fill}
 use Rattle.lists.proofs.Members.{listed-or-not}
-use Rattle.cs_tree.proofs.Upper.{listed-filled, filled-listed, no-repeats, upperColumn-out}
-use Rattle.cs_tree.proofs.Laws.{upper-at, fill-upper}
+use Rattle.cs_tree.proofs.Upper.{listed-filled, filled-listed}
+use Rattle.cs_tree.proofs.Laws.{upper-at}
 
 pub rising-from : {b c : ℕ} {l : List ℕ} → c ≤ b → Rising b l → Rising c l
 rising-from h flat = flat

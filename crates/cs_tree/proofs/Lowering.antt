@@ -4,14 +4,12 @@ use mathlib.Core.Bool.{Bool, true, false, cond}
 use mathlib.Core.List.{List, [], _∷_, _++_, flatten, List·Memᴰ, List·Memᴰ·head, List·Memᴰ·tail}
 use mathlib.Core.Logic.{⊎-elim}
 use Prim.Native.Nat.{ℕ, zero, suc, _+_, _-_, _≤_, _<_, _^_, min}
-use native.Mathlib.Numerals.{add-one}
 use native.Mathlib.Omega.{arith}
 use lib.Dec.{eqb}
-use lib.ListN.{length, getD, set, take, drop, length-append, List·getD-append}
-use lib.Seq.{take-all, length-take-le, getD-take, getD-at, getD-append-add, ext-getD}
+use lib.ListN.{length, getD, take, length-append, List·getD-append}
+use lib.Seq.{take-all, length-take-le, getD-take, getD-at, ext-getD}
 use Rattle.lists.specs.Calls.{onto, cleared}
 use Rattle.lists.specs.Keys.{ofKey, byKey}
-use Rattle.lists.specs.Order.{Once}
 use Rattle.lists.specs.Parts.{part, placed}
 use Rattle.lists.specs.Sums.{counted, sums}
 use Rattle.lists.specs.Keeping.{Kept}
@@ -21,11 +19,11 @@ use Rattle.lists.proofs.Keys.{keys-whole}
 use Rattle.lists.proofs.Laying.{placed-front, part-front, onto-whole}
 use Rattle.lists.proofs.Parts.{length-onto, getD-onto-front, getD-onto-rest}
 use Rattle.lists.proofs.Scattering.{Scatter}
-use Rattle.lists.proofs.Summing.{length-counted, counts-fit, counts-rest, length-sums}
+use Rattle.lists.proofs.Summing.{length-counted, counts-fit, counts-rest}
 use Rattle.cs_tree.specs.Pattern.{starts, entries, transposed}
 use Rattle.cs_tree.specs.Steps.{lengths, numbers, Pointed, Spreads, Whole}
 use Rattle.cs_tree.proofs.Count.{length-starts, entries-across}
-use Rattle.cs_tree.proofs.Laid.{sums-starts, start-at, length-laid, laid-at, length-numbers, length-lengths, transposed-length, transposed-start, length-transposed, laid-transposed}
+use Rattle.cs_tree.proofs.Laid.{sums-starts, start-at, length-laid, length-numbers, length-lengths, transposed-length, transposed-start, length-transposed, laid-transposed}
 
 -- ---- `cumsum` on the fronts of two slices
 -- what is summed

@@ -1,37 +1,24 @@
 -- The order within a column of U: each new path rises, and a parent stands behind its children. Assumes nothing.
-use mathlib.Core.Path.{_≡_, refl, sym, ap, subst, _∙_}
-use mathlib.Core.Logic.{_⊎_, inl, inr, _≢_}
+use mathlib.Core.Path.{_≡_, refl}
+use mathlib.Core.Logic.{_⊎_, inl, inr}
 use mathlib.Core.Bool.{true, false}
 use mathlib.Core.List.{List, [], _∷_, _++_, List·Memᴰ, List·Memᴰ·not-nil}
 use Prim.Native.Nat.{ℕ, zero, suc, _+_, _≤_, _<_}
 use native.Mathlib.Omega.{arith}
 use native.Mathlib.Decide.{decLt, decLe}
 use lib.ListN.{getD, length}
-use Rattle.lists.specs.Order.{lists, Rising, flat, step}
+use Rattle.lists.specs.Order.{lists}
 use Rattle.lists.specs.Folds.{along}
 use Rattle.cs_tree.specs.Tree.{root, tree}
 use Rattle.cs_tree.specs.Pattern.{path, paths, upperColumn}
 use Rattle.cs_tree.specs.Least.{Behind, last, next}
-use Rattle.cs_tree.proofs.Reach.{Reach, here}
+use Rattle.cs_tree.proofs.Reach.{here}
 use Rattle.lists.proofs.Members.{listed-or-not}
 use Rattle.cs_tree.proofs.Steps.{path-over, path-seen, path-new}
 use Rattle.cs_tree.proofs.Rows.{Good, tree-good}
 use Rattle.cs_tree.proofs.Upper.{Upwards, rise, path-full, path-closed, upperColumn-out}
-use Rattle.cs_tree.proofs.Lower.{rising-from}
 
 module _ (cols : List (List ℕ)) (par : List ℕ) (g : Good cols par) (k : ℕ) (kr : k < root) where
-  pub path-rises : (f i : ℕ) (seen : List ℕ) → Rising i (path f par k i seen)
-  unfolding path
-  path-rises zero i seen = flat
-  path-rises (suc f) i seen = go (decLe i k) (listed-or-not i seen) (decLe (getD par i root) k) (path-rises f (getD par i root) seen)
-    where
-      go : Dec (i ≤ k) → ((lists i seen ≡ true) × List·Memᴰ i seen) ⊎ ((lists i seen ≡ false) × ¬ List·Memᴰ i seen) → Dec (getD par i root ≤ k)
-          → Rising (getD par i root) (path f par k (getD par i root) seen) → Rising i (path (suc f) par k i seen)
-      go (no n) d p ih = rw (path-over (suc f) par k i seen (omega arith)) flat
-      go (yes l) (inl d) p ih = rw (path-seen (suc f) par k i seen l (d .0)) flat
-      go (yes l) (inr d) (yes p) ih = rw (path-new f par k i seen l (d .0)) (step {b = i} {x = i} (omega arith) (rising-from (rise cols par g k kr i p) ih))
-      go (yes l) (inr d) (no p) ih = rw (path-new f par k i seen l (d .0), path-over f par k (getD par i root) seen (omega arith)) (step {b = i} {x = i} (omega arith) flat)
-
   path-behind : (f i : ℕ) (seen : List ℕ) → k < i + f → Upwards par k seen → Behind par k seen → Behind par k (path f par k i seen ++ seen)
   unfolding path
   path-behind zero i seen fuel c b = b

@@ -1,17 +1,17 @@
 -- Everything that is promised of the tree, of U and of L (specs/Least.antt), for a matrix of at most `root` columns. That rows
 -- rise and are below n is not needed. Assumes nothing.
-use mathlib.Core.Path.{_≡_, refl, sym, ap, _∙_}
-use mathlib.Core.Logic.{_⊎_, inl, inr, _↔_}
-use mathlib.Core.List.{List, [], _∷_, map, List·Memᴰ, List·Memᴰ·not-nil}
-use Prim.Native.Nat.{ℕ, zero, suc, _≤_, _<_}
+use mathlib.Core.Path.{_≡_, refl, _∙_}
+use mathlib.Core.Logic.{inl, inr, _↔_}
+use mathlib.Core.List.{List, [], map, List·Memᴰ, List·Memᴰ·not-nil}
+use Prim.Native.Nat.{ℕ, _≤_}
 use native.Mathlib.Omega.{arith}
 use native.Mathlib.Decide.{decLt}
 use lib.ListN.{length, getD, List·getD-eq-default}
-use Rattle.lists.specs.Order.{Rising, flat, Once}
+use Rattle.lists.specs.Order.{Rising, flat}
 use Rattle.lists.proofs.Tables.{length-table}
 use Rattle.cs_tree.specs.Tree.{root, tree}
-use Rattle.cs_tree.specs.Pattern.{upperColumn, upper, across, transposed, lower}
-use Rattle.cs_tree.specs.Least.{In, Fill, stored, cross, diag, Closed, IsParent, sorted, Promised, Behind}
+use Rattle.cs_tree.specs.Pattern.{upper, across, transposed, lower}
+use Rattle.cs_tree.specs.Least.{In, Fill, stored, cross, diag, Closed, IsParent, sorted, Promised}
 use Rattle.cs_tree.proofs.Upper.{listed-filled, filled-listed, no-repeats}
 use Rattle.cs_tree.proofs.Laws.{fill-least, fill-mono, fill-upper, tree-parent, upper-at, fill-upper-same, fill-into-upper}
 use Rattle.cs_tree.proofs.Lower.{length-upper, lower-rises, lower-fill}

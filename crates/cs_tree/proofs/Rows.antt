@@ -1,15 +1,15 @@
 -- The row structure: (j, k) is filled exactly if j ≤ k is reached from a stored row of column k. Assumes nothing.
-use mathlib.Core.Path.{_≡_, refl, sym, ap, subst, _∙_}
-use mathlib.Core.Logic.{_⊎_, inl, inr, _≢_}
-use mathlib.Core.List.{List, [], _∷_, List·Memᴰ, List·Memᴰ·head, List·Memᴰ·tail, List·Memᴰ·not-nil, List·Memᴰ·cases-cons}
-use Prim.Native.Nat.{ℕ, zero, suc, _+_, _≤_, _<_}
+use mathlib.Core.Path.{_≡_, refl}
+use mathlib.Core.Logic.{_≢_}
+use mathlib.Core.List.{List, [], List·Memᴰ, List·Memᴰ·not-nil}
+use Prim.Native.Nat.{ℕ, zero, suc, _≤_, _<_}
 use native.Mathlib.Omega.{arith}
-use native.Mathlib.Decide.{decLt, decLe, ℕ-discrete}
+use native.Mathlib.Decide.{decLt, ℕ-discrete}
 use lib.ListN.{getD, length, List·getD-eq-default}
-use Rattle.cs_tree.specs.Tree.{root, tree, treeTo}
+use Rattle.cs_tree.specs.Tree.{root, tree}
 use Rattle.cs_tree.specs.Least.{Fill, stored, cross, diag}
-use Rattle.cs_tree.proofs.Reach.{Reach, here, up, reach-le, reach-trans, reach-split, reach-first, reach-snoc}
-use Rattle.cs_tree.proofs.Tree.{Made, Done, tree-done}
+use Rattle.cs_tree.proofs.Reach.{Reach, here, up, reach-le, reach-trans, reach-split, reach-first}
+use Rattle.cs_tree.proofs.Tree.{Made, tree-done}
 
 -- what the rest uses of a tree
 pub record Good (cols : List (List ℕ)) (par : List ℕ) : Type 0 where

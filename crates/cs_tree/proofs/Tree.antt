@@ -1,15 +1,15 @@
 -- The invariant of the tree's making (Liu), through the climbs. Assumes nothing.
-use mathlib.Core.Path.{_≡_, refl, sym, ap, subst, _∙_}
+use mathlib.Core.Path.{_≡_, refl, sym, _∙_}
 use mathlib.Core.Logic.{_⊎_, inl, inr, _≢_}
 use mathlib.Core.List.{List, [], _∷_, List·Memᴰ, List·Memᴰ·head, List·Memᴰ·tail, List·Memᴰ·not-nil, List·Memᴰ·cases-cons}
 use Prim.Native.Nat.{ℕ, zero, suc, _+_, _≤_, _<_}
 use native.Mathlib.Omega.{arith}
-use native.Mathlib.Decide.{decLt, decLe, ℕ-discrete}
+use native.Mathlib.Decide.{decLt, ℕ-discrete}
 use lib.ListN.{getD, set, length, length-set, replicate, length-replicate, getD-replicate, List·getD-eq-default}
 use lib.Seq.{getD-set-other}
 use Rattle.lists.specs.Folds.{along}
-use Rattle.cs_tree.specs.Tree.{root, Forest, climb, climbs, treeTo, tree}
-use Rattle.cs_tree.proofs.Reach.{Reach, here, up, reach-le, reach-trans, reach-mono, reach-split, reach-first, reach-snoc}
+use Rattle.cs_tree.specs.Tree.{root, Forest, climb, climbs, treeTo}
+use Rattle.cs_tree.proofs.Reach.{Reach, here, up, reach-trans, reach-mono, reach-snoc}
 use Rattle.cs_tree.proofs.Steps.{climb-stop, climb-root, climb-on, getD-set}
 
 abbrev pub P : Forest → ℕ → ℕ

@@ -1,21 +1,21 @@
 -- The columns of U as they are computed: members, and no repeats. Assumes nothing.
-use mathlib.Core.Path.{_≡_, refl, sym, ap, subst, _∙_}
-use mathlib.Core.Logic.{_⊎_, inl, inr, _≢_}
+use mathlib.Core.Path.{_≡_, refl, sym}
+use mathlib.Core.Logic.{_⊎_, inl, inr}
 use mathlib.Core.Bool.{true, false}
-use mathlib.Core.List.{List, [], _∷_, _++_, List·Memᴰ, List·Memᴰ·head, List·Memᴰ·tail, List·Memᴰ·not-nil, List·Memᴰ·cases-cons, List·Memᴰ·append-cases, Memᴰ·append-left, Memᴰ·append-right}
+use mathlib.Core.List.{List, [], _∷_, _++_, List·Memᴰ, List·Memᴰ·head, List·Memᴰ·tail, List·Memᴰ·not-nil, List·Memᴰ·cases-cons, List·Memᴰ·append-cases, Memᴰ·append-right}
 use Prim.Native.Nat.{ℕ, zero, suc, _+_, _≤_, _<_}
 use native.Mathlib.Omega.{arith}
-use native.Mathlib.Decide.{decLt, decLe, ℕ-discrete}
+use native.Mathlib.Decide.{decLt, decLe}
 use lib.ListN.{getD, length, List·getD-eq-default}
 use Rattle.lists.specs.Order.{lists, Once, no-more, one-more}
 use Rattle.lists.specs.Folds.{along}
 use Rattle.cs_tree.specs.Tree.{root, tree}
 use Rattle.cs_tree.specs.Pattern.{path, paths, upperColumn}
 use Rattle.cs_tree.specs.Least.{Fill}
-use Rattle.cs_tree.proofs.Reach.{Reach, here, up, reach-le, reach-trans, reach-split, reach-first, reach-snoc}
+use Rattle.cs_tree.proofs.Reach.{Reach, here, up, reach-le, reach-snoc}
 use Rattle.lists.proofs.Members.{listed-or-not}
 use Rattle.cs_tree.proofs.Steps.{path-over, path-seen, path-new}
-use Rattle.cs_tree.proofs.Rows.{Good, tree-good, in-cols, Entry, fill-entry, entry-fill}
+use Rattle.cs_tree.proofs.Rows.{Good, tree-good, in-cols, fill-entry, entry-fill}
 
 -- up to k, the parents of what is listed are listed
 unfoldable pub Upwards : List ℕ → ℕ → List ℕ → Type 0

@@ -1,23 +1,19 @@
 -- The loops of a column of U: the walk from one row with its marks, and row by row. Assumes nothing.
 use mathlib.Core.Path.{_≡_, refl, sym, ap, _∙_}
 use mathlib.Core.Bool.{Bool, true, false, _||_}
-use mathlib.Core.List.{List, [], _∷_, _++_, append-nil, append-assoc, List·Memᴰ, List·Memᴰ·head, List·Memᴰ·tail, List·Memᴰ·not-nil, List·Memᴰ·cases-cons, List·Memᴰ·append-cases}
+use mathlib.Core.List.{List, [], _∷_, _++_, append-nil, List·Memᴰ, List·Memᴰ·head, List·Memᴰ·tail, List·Memᴰ·not-nil, List·Memᴰ·cases-cons, List·Memᴰ·append-cases}
 use mathlib.Core.Logic.{_⊎_, inl, inr, ⊎-elim, _≢_}
 use Prim.Native.Nat.{ℕ, zero, suc, _+_, _-_, _*_, _≤_, _<_}
-use native.Mathlib.Numerals.{add-one}
 use native.Mathlib.Omega.{arith}
-use native.Mathlib.Decide.{decLe}
 use lib.Dec.{eqb}
-use lib.ListN.{length, getD, set, take, drop, length-set, length-append, length-drop}
-use lib.Seq.{getD-set-same, getD-set-other, append-snoc, getD-at, take-all, drop-at, drop-drop, drop-length, length-take-le}
+use lib.ListN.{length, getD, set, drop, length-set, length-append}
+use lib.Seq.{getD-set-same, getD-set-other, append-snoc}
 use borrow.Author.Tests.{eq-eqb, ne-eqb}
 use Rattle.lists.specs.Folds.{along}
 use Rattle.lists.specs.Order.{lists}
-use Rattle.lists.specs.Parts.{part, placed}
-use Rattle.lists.proofs.Bools.{eq-or-ne, or-false, or-none}
-use Rattle.lists.proofs.Ordering.{lists-mean, member-lists}
-use Rattle.lists.proofs.Parts.{written-more, length-part, length-placed}
-use Rattle.lists.proofs.Members.{lists-same, lists-other, lists-append, listed-or-not, getD-any}
+use Rattle.lists.proofs.Bools.{eq-or-ne}
+use Rattle.lists.proofs.Ordering.{member-lists}
+use Rattle.lists.proofs.Members.{lists-other, lists-append, listed-or-not, getD-any}
 use Rattle.lists.proofs.Folds.{Along, along-start, along-turn, along-end}
 use Rattle.cs_tree.specs.Tree.{root}
 use Rattle.cs_tree.specs.Pattern.{path, paths}

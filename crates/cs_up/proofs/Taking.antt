@@ -1,7 +1,7 @@
 -- `take_rows`: rows of a column of L taken from x, and that the definition's tests leave out the diagonal alone. Assumes nothing.
 use mathlib.Core.Bool.{true}
 use mathlib.Core.List.{List, [], _∷_}
-use mathlib.Core.Path.{_≡_, refl, sym, ap, _∙_}
+use mathlib.Core.Path.{_≡_, refl, ap, _∙_}
 use Prim.Native.Nat.{ℕ, suc, _+_, _-_, _≤_, _<_}
 use native.Mathlib.Omega.{arith}
 use lib.Ieee.{Float, nan, binary64, sub, mul}
@@ -13,7 +13,7 @@ use Rattle.lists.specs.Folds.{over}
 use Rattle.lists.specs.Order.{rises}
 use Rattle.lists.specs.Parts.{part, placed}
 use Rattle.lists.specs.Runs.{tight, zipped}
-use Rattle.lists.proofs.Entries.{Passing, passing-turn, run-passes}
+use Rattle.lists.proofs.Entries.{Passing, passing-turn, over-other, run-passes}
 use Rattle.lists.proofs.Folds.{over-first}
 use Rattle.lists.proofs.Parts.{length-part, getD-part}
 use Rattle.lists.proofs.Positions.{over-keeps}
@@ -40,10 +40,8 @@ length-taken t rows vals x = over-keeps length (takeAt t) rows vals (λ r v s m.
 
 -- at a row that is not taken
 pub taken-other : (t : Float) (rows : List ℕ) (vals x : List Float) (i : ℕ) → ((z : ℕ) → z < length rows → getD rows z 0 ≡ i → ⊥) → getD (over (takeAt t) rows vals x) i nan ≡ getD x i nan
-unfolding over takeAt
-taken-other t [] vals x i h = refl
-taken-other t (r ∷ rows) [] x i h = refl
-taken-other t (r ∷ rows) (v ∷ vals) x i h = taken-other t rows vals _ i (λ z l. h (suc z) (omega arith)) ∙ getD-set-other x r i _ nan (λ (e : i ≡ r). h 0 (omega arith) (sym e))
+unfolding takeAt
+taken-other t rows vals x i h = over-other nan (takeAt t) i (λ z v s n. getD-set-other s z i _ nan n) rows vals h x
 
 -- ---- the definition's tests
 module _ (j k : ℕ) (t : Float) where

@@ -6,7 +6,7 @@ use native.Mathlib.Nat.{mul-one, mul-assoc, mul-left-comm, pow-suc, pow-succ', e
 use native.Mathlib.Omega.{arith}
 use lib.Dec.{T, leb, ltb, eqb, leb→le, ltb→lt, eqb→eq}
 use lib.IntN.{ℤ, pos, negsuc}
-use lib.Pow.{pow-pos, pow-lt, pow-mono, pow-add, shl-lt}
+use lib.Pow.{pow-pos, pow-mono, pow-add, shl-lt}
 use lib.Ieee.{Float, fin, binary64, up, down, round, fits}
 use lib.Ieee.Exact.{HasValue, round-exact}
 use lib.Ieee.Fits.{and-l, and-r, round-fits, down-pos, up-pos}

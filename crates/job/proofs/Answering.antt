@@ -1,9 +1,9 @@
 -- The stages of a job, one behind the other: what was read stands in the fronts of the arrays, and what is written is the file's
 -- answer. Assumes nothing.
 use mathlib.Core.Logic.{⊎-elim}
-use mathlib.Core.Path.{_≡_, refl, sym, ap, subst, _∙_}
+use mathlib.Core.Path.{_≡_, refl, sym, ap, _∙_}
 use mathlib.Core.List.{List, [], _++_}
-use Prim.Native.Nat.{ℕ, zero, suc, _≤_, _<_}
+use Prim.Native.Nat.{ℕ, zero, suc, _≤_}
 use native.Mathlib.Omega.{arith}
 use lib.Ieee.{Float}
 use lib.ListN.{length, take, drop, length-append}
@@ -13,7 +13,7 @@ use Rattle.lists.proofs.Bools.{eq-or-ne}
 use Rattle.lists.proofs.Places.{take-onto}
 use Rattle.lists.specs.Folds.{turns, falls}
 use Rattle.cs_matrix.specs.Matrix.{Matrix}
-use Rattle.cs_conversion.specs.Assembly.{Triplets, triplets, assembled}
+use Rattle.cs_conversion.specs.Assembly.{triplets, assembled}
 use Rattle.cs_solve.specs.declared.Solved.{Solved}
 use Rattle.cs_solve.specs.Solve.{forwardColumn, forward}
 use Rattle.cs_solve.specs.TrSolve.{transposedColumn, transposed}
@@ -21,13 +21,13 @@ use Rattle.cs_solve.proofs.Steps.{length-forwardColumn, length-transposedAt}
 use Rattle.job_file.specs.declared.read.Answer.{Answer}
 use Rattle.job_file.specs.Faults.{Job}
 use Rattle.job_file.specs.Reading.{Outcome, readFile}
-use Rattle.job_file.specs.Arrays.{Arrays, arrays, laid, answered as read-as, Within}
+use Rattle.job_file.specs.Arrays.{Arrays, laid, answered as read-as, Within}
 use Rattle.job_file.proofs.Longest.{past-longest}
 use Rattle.job_answer.specs.declared.Wrote.{Wrote}
 use Rattle.job_answer.specs.Lines.{Line, text, lines}
 use Rattle.job_answer.specs.Answer.{answer, leaves}
 use Rattle.job_answer.proofs.Writing.{text-long}
-use Rattle.job.specs.Run.{Result, result, answered, after, factoring, lowerMatrix, solved, run, tripletsOf, worked}
+use Rattle.job.specs.Run.{Result, after, factoring, lowerMatrix, solved, run, tripletsOf, worked}
 use Rattle.job.specs.Output.{resultOf, written, output}
 use Rattle.job.proofs.Solving.{Owed, after-go, after-stop}
 

@@ -4,20 +4,20 @@ use mathlib.Core.Bool.{Bool, true, false, not, cond, _&&_, true≢false}
 use mathlib.Core.Logic.{⊎-elim, _⊎_}
 use mathlib.Core.Path.{_≡_, refl, sym, ap, subst, _∙_}
 use mathlib.Core.List.{List, [], _∷_, _++_, flatten, append-assoc, append-nil}
-use Prim.Native.Nat.{ℕ, suc, _+_, _≤_, _<_}
+use Prim.Native.Nat.{ℕ, _+_, _≤_, _<_}
 use native.Mathlib.Omega.{arith}
 use lib.Dec.{eqb}
 use lib.Ieee.{Float}
 use lib.ListN.{length, getD, take, replicate}
 use lib.Seq.{take-all}
 use borrow.Author.Tests.{eq-eqb, ne-eqb, eqb-false}
-use Rattle.lists.specs.Calls.{lowest, none, onto, narrow, Scratch, Lent, lent, outputs}
+use Rattle.lists.specs.Calls.{lowest, none, onto, narrow, Scratch, Lent, outputs}
 use Rattle.lists.proofs.Bools.{and-true, passed-over, eq-or-ne}
 use Rattle.lists.proofs.Calls.{left-done}
 use Rattle.lists.proofs.Passing.{lowest-none}
 use Rattle.lists.proofs.Places.{take-onto}
 use Rattle.cs_matrix.specs.Matrix.{Matrix, matrix, needed, judgedSquareMatrix}
-use Rattle.cs_tree.specs.Pattern.{Analysis, analysed, upper, lower, starts, entries}
+use Rattle.cs_tree.specs.Pattern.{Analysis, analysed, upper, lower, entries}
 use Rattle.cs_tree.specs.Tree.{root}
 use Rattle.cs_tree.proofs.Count.{length-starts}
 use Rattle.cs_tree.proofs.Laid.{length-laid, start-at}
@@ -34,7 +34,6 @@ use Rattle.cs_left.specs.Left.{leftStep, left, strays, number as leftNumber}
 use Rattle.cs_up.specs.Up.{up, number as upNumber}
 use Rattle.cs_up.proofs.Calling.{up-ends}
 use Rattle.cs_solve.specs.declared.Solved.{Solved}
-use Rattle.job_prepare.specs.Prepare.{scratchRoom}
 use Rattle.job.specs.Run.{Result, answered, after, factoring, valuesRoom, factorNumber, factored, lowerMatrix, solved, run}
 use Rattle.job.specs.Steps.{heldMatrix, Prepared}
 use Rattle.job.proofs.Sizes.{left-long, up-long}

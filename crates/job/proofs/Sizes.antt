@@ -1,24 +1,24 @@
 -- A factoring that is done has a value for each entry of L. Assumes nothing.
 use mathlib.Core.Bool.{Bool, true, false, cond, true≢false}
-use mathlib.Core.Logic.{⊎-elim, _⊎_, inl, inr}
+use mathlib.Core.Logic.{⊎-elim, _⊎_}
 use mathlib.Core.Path.{_≡_, refl, sym, ap, _∙_}
-use mathlib.Core.List.{List, [], _∷_, _++_, flatten, map, List·Memᴰ, List·Memᴰ·head, List·Memᴰ·tail, List·Memᴰ·not-nil, List·Memᴰ·cases-cons}
+use mathlib.Core.List.{List, [], _∷_, _++_, flatten, List·Memᴰ, List·Memᴰ·head, List·Memᴰ·tail, List·Memᴰ·not-nil, List·Memᴰ·cases-cons}
 use Prim.Native.Nat.{ℕ, zero, suc, _+_, _≤_, _<_}
 use native.Mathlib.Nat.{eq-or-lt-of-le}
 use native.Mathlib.Omega.{arith}
-use lib.Dec.{ltb, leb}
-use lib.Ieee.{Float, nan, binary64, div, lt, ofBits}
-use lib.ListN.{length, getD, set, take, replicate, length-append, length-set, length-map, getD-replicate}
+use lib.Dec.{ltb}
+use lib.Ieee.{Float, nan, lt, ofBits}
+use lib.ListN.{length, getD, set, take, replicate, length-append, length-set, getD-replicate}
 use lib.Seq.{take-all}
-use borrow.Author.Tests.{lt-ltb, le-ltb, le-leb, lt-leb}
+use borrow.Author.Tests.{lt-ltb, le-ltb}
 use Rattle.lists.specs.Calls.{none}
-use Rattle.lists.specs.Folds.{along, over}
-use Rattle.lists.specs.Order.{Once, no-more, one-more}
+use Rattle.lists.specs.Folds.{along}
+use Rattle.lists.specs.Order.{Once, one-more}
 use Rattle.lists.proofs.Bools.{le-or-lt}
 use Rattle.lists.proofs.Spots.{member-at}
 use Rattle.root.specs.Root.{rootOf}
 use Rattle.cs_matrix.specs.Matrix.{Matrix, column}
-use Rattle.cs_tree.specs.Least.{In, Promised}
+use Rattle.cs_tree.specs.Least.{Promised}
 use Rattle.cs_tree.specs.Pattern.{upper, lower, entries}
 use Rattle.cs_tree.specs.Tree.{root, tree}
 use Rattle.cs_tree.proofs.Laid.{length-laid, entries-more}
@@ -27,10 +27,10 @@ use Rattle.cs_tree.proofs.Promises.{promised, filled}
 use Rattle.cs_pattern.specs.Columns.{columns}
 use Rattle.cs_pattern.proofs.Columns.{length-columns, column-at}
 use Rattle.cs_cholesky.specs.Factor.{Step, Outcome, factored, factor}
-use Rattle.cs_left.specs.Left.{leftX, quotients, leftStep, left}
+use Rattle.cs_left.specs.Left.{leftX, leftStep, left}
 use Rattle.cs_left.proofs.Columns.{length-quotients}
 use Rattle.cs_up.proofs.Loading.{puts-none}
-use Rattle.cs_up.specs.Up.{putAt, subAt, Way, rowAt, rowsAt, startAt, upStep, up}
+use Rattle.cs_up.specs.Up.{Way, rowAt, rowsAt, startAt, upStep, up}
 
 -- ---- lists of columns
 module _ {A : Type 0} where

@@ -1,8 +1,8 @@
 -- What a preparation that is done leaves for the run. Assumes nothing.
-use mathlib.Core.Bool.{Bool, true, _&&_}
-use mathlib.Core.Path.{_≡_, refl, sym, ap, subst, _∙_}
-use mathlib.Core.List.{List, _++_}
-use Prim.Native.Nat.{ℕ, _≤_, _<_}
+use mathlib.Core.Bool.{true}
+use mathlib.Core.Path.{_≡_, sym, ap, subst, _∙_}
+use mathlib.Core.List.{List}
+use Prim.Native.Nat.{ℕ}
 use lib.Ieee.{Float}
 use lib.ListN.{length, drop}
 use Rattle.lists.specs.Calls.{onto}
@@ -16,7 +16,7 @@ use Rattle.cs_conversion.specs.Assembly.{Triplets, triplets, assembled, Assembl
 use Rattle.cs_solve.specs.declared.Solved.{Solved}
 use Rattle.job_prepare.specs.Prepare.{number, Outputs, leaves}
 use Rattle.job_prepare.proofs.Preparing.{written-asks, written-matrix, done-matrix, done-analysis}
-use Rattle.job.specs.Run.{Result, answered, after, run, worked}
+use Rattle.job.specs.Run.{answered, after, run, worked}
 use Rattle.job.specs.Steps.{heldMatrix, Prepared}
 use Rattle.job.proofs.Solving.{Owed, owed-stop, owed-go}
 

@@ -1,20 +1,20 @@
 -- The ways out of the preparation: what each call answers and leaves in the program's arrays. Assumes nothing.
-use mathlib.Core.Bool.{Bool, true, false, cond, _||_}
+use mathlib.Core.Bool.{Bool, true, false, cond}
 use mathlib.Core.Logic.{⊎-elim}
-use mathlib.Core.Path.{_≡_, refl, sym, ap, subst, _∙_}
+use mathlib.Core.Path.{_≡_, refl, sym, ap, _∙_}
 use mathlib.Core.List.{List, [], _∷_, _++_}
 use Prim.Native.Nat.{ℕ, _+_, _-_, _≤_, _<_}
 use native.Mathlib.Omega.{arith}
-use lib.Dec.{eqb, ltb}
+use lib.Dec.{eqb}
 use lib.Ieee.{Float}
-use lib.ListN.{length, getD, take, drop, replicate, length-append, length-drop, length-replicate}
+use lib.ListN.{length, getD, take, drop, length-append, length-replicate}
 use borrow.Author.Tests.{eq-eqb, ne-eqb}
-use Rattle.lists.specs.Calls.{lowest, none, onto, narrow, Scratch, scratch, Lent, lent, outputs, leaves as left}
+use Rattle.lists.specs.Calls.{lowest, none, onto, narrow, Scratch, Lent, lent, outputs, leaves as left}
 use Rattle.lists.proofs.Bools.{eq-or-ne}
 use Rattle.lists.proofs.Calls.{left-done}
 use Rattle.lists.proofs.Parts.{getD-onto-front}
 use Rattle.lists.proofs.Places.{take-onto}
-use Rattle.cs_matrix.specs.Matrix.{Pattern, pattern, Matrix, matrix, Stored, stored, written, short, needed, Valid, judgedSquare}
+use Rattle.cs_matrix.specs.Matrix.{Pattern, pattern, Matrix, matrix, Stored, stored, written, short, needed, judgedSquare}
 use Rattle.cs_tree.specs.Pattern.{Analysis, analysis, analysed}
 use Rattle.cs_conversion.specs.Assembly.{Triplets, triplets, judgedTriplets, neededTriplets, twice, assembled, Assembled, number as assemblyNumber}
 use Rattle.cs_pattern.specs.Analyse.{number as analysisNumber, written as writtenAnalysis, short as shortAnalysis}

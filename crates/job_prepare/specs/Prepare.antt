@@ -6,7 +6,7 @@ use Prim.Native.Nat.{ℕ, _+_}
 use lib.Dec.{eqb}
 use lib.ListN.{getD, replicate, take}
 use Rattle.lists.specs.Calls.{none, Scratch, scratch, Lent, lent, outputs}
-use Rattle.cs_matrix.specs.Matrix.{Pattern, pattern, Matrix, Stored, stored, written}
+use Rattle.cs_matrix.specs.Matrix.{Pattern, pattern, Stored, stored, written}
 use Rattle.cs_tree.specs.Pattern.{Analysis, analysis, analysed}
 use Rattle.cs_conversion.specs.Assembly.{Triplets, assembled, number as assemblyNumber}
 use Rattle.cs_pattern.specs.Analyse.{number as analysisNumber, written as writtenAnalysis}

@@ -1,5 +1,5 @@
 -- A step at each row and value of a column: the loop, and a column whose rows are a run, which is one part of x. Assumes nothing.
-use mathlib.Core.Path.{_≡_, refl, _∙_}
+use mathlib.Core.Path.{_≡_, refl, sym, _∙_}
 use mathlib.Core.Bool.{true}
 use mathlib.Core.List.{List}
 use Prim.Native.Nat.{ℕ, _+_, _≤_, _<_}
@@ -12,6 +12,8 @@ use Rattle.lists.specs.Order.{rises}
 use Rattle.lists.specs.Parts.{part, placed}
 use Rattle.lists.specs.Runs.{tight, zipped}
 use Rattle.lists.proofs.Folds.{Over, over-start, over-turn, over-end}
+use Rattle.lists.proofs.Positions.{over-keeps}
+use Rattle.lists.proofs.Spots.{spot}
 use Rattle.lists.proofs.Runs.{Steps, tight-within, over-tight}
 
 -- ---- the loop
@@ -37,6 +39,11 @@ module _ {A B : Type 0} where
 
     pub passing-end : length rows ≤ q → x ≡ over f rows vals x₀
     passing-end h = over-end f rows vals (w .is) h
+
+-- ---- a row that is not among them stays as it was
+pub over-other : {A B : Type 0} (d : A) (step : ℕ → B → List A → List A) (r : ℕ) → ((z : ℕ) (v : B) (x : List A) → (r ≡ z → ⊥) → getD (step z v x) r d ≡ getD x r d)
+    → (rows : List ℕ) (vals : List B) → ((q : ℕ) → q < length rows → getD rows q 0 ≡ r → ⊥) → (x : List A) → getD (over step rows vals x) r d ≡ getD x r d
+over-other {A = A} d step r h rows vals f = over-keeps (λ (s : List A). getD s r d) step rows vals (λ z v s m. let p = spot m in h z v s (λ e. f (p .at) (p .inside) (p .is ∙ sym e)))
 
 -- ---- rows that rise and are tight: one part of x
 module _ {A B : Type 0} {rows : List ℕ} {vals : List B} (x : List A) (a : Entries (length x) rows vals × (rises rows ≡ true)) (t : tight rows ≡ true) {r : ℕ} (e : r ≡ getD rows 0 0) where

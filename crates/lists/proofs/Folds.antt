@@ -15,14 +15,6 @@ use Rattle.lists.proofs.Bools.{and-true, and-none, and-false, not-both}
 use Rattle.lists.proofs.Parts.{left-at, left-none}
 
 -- ---- every
-pub every-none : (f : ℕ → Bool) → every 0 f ≡ true
-unfolding every
-every-none f = refl
-
-pub every-more : (n : ℕ) (f : ℕ → Bool) → every n f ≡ true → f n ≡ true → every (n + 1) f ≡ true
-unfolding every
-every-more n f h e = rw (add-one, h) e
-
 pub every-all : (n : ℕ) (f : ℕ → Bool) → ((k : ℕ) → k < n → f k ≡ true) → every n f ≡ true
 unfolding every
 every-all zero f h = refl
@@ -41,13 +33,6 @@ every-not n f k l e = go (every n f) refl
     go : (b : Bool) → every n f ≡ b → b ≡ false
     go true h = absurd (not-both (f k) (every-at n f h k l) e)
     go false h = refl
-
--- a walk that ends with every number below n passed, and one that stops at a number that fails
-pub every-end : (n : ℕ) (f : ℕ → Bool) (k : ℕ) → every k f ≡ true → k ≤ n → n ≤ k → true ≡ every n f
-every-end n f k h p q = let e : k ≡ n = omega arith in sym (rw e at h)
-
-pub every-stop : (n : ℕ) (f : ℕ → Bool) (k : ℕ) → k < n → f k ≡ false → false ≡ every n f
-every-stop n f k l e = sym (every-not n f k l e)
 
 -- ---- tally
 pub tally-none : (f : ℕ → Bool) → tally 0 f ≡ 0
@@ -106,12 +91,6 @@ module _ {S : Type 0} where
 
   pub turns-end : (n k : ℕ) (f : ℕ → S → S) (s : S) {x : S} → x ≡ turns k f s → k ≤ n → n ≤ k → x ≡ turns n f s
   turns-end n k f s e p q = let h : k ≡ n = omega arith in rw h at e
-
-  -- what every turn keeps
-  pub turns-keep : (P : S → Type 0) (n : ℕ) (f : ℕ → S → S) (s : S) → ((k : ℕ) (x : S) → k < n → P x → P (f k x)) → P s → P (turns n f s)
-  unfolding turns
-  turns-keep P zero f s h p = p
-  turns-keep P (suc n) f s h p = h n (turns n f s) (omega arith) (turns-keep P n f s (λ k x l. h k x (omega arith)) p)
 
   -- m turns after a turns
   pub turns-add : (a m : ℕ) (f : ℕ → S → S) (s : S) → turns m (λ k. f (a + k)) (turns a f s) ≡ turns (a + m) f s

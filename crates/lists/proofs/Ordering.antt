@@ -39,11 +39,6 @@ pub rises-all : (l : List ℕ) → ((k : ℕ) → suc k < length l → getD l k 
 unfolding rises
 rises-all l h = every-all (length l - 1) (λ k. ltb (getD l k 0) (getD l (k + 1) 0)) (λ k m. lt-ltb (getD l k 0) (getD l (k + 1) 0) (rw add-one (h k (omega arith))))
 
--- the test gives the fact
-pub rises-mean : (l : List ℕ) (b : ℕ) → ((k : ℕ) → k < length l → b ≤ getD l k 0) → rises l ≡ true → Rising b l
-rises-mean [] b g h = flat
-rises-mean (x ∷ l) b g h = step {b = b} {x = x} (g 0 (omega arith)) (rises-mean l (suc x) (λ k m. rises-apart (x ∷ l) h 0 (suc k) (omega arith) (omega arith)) (rises-all l (λ k m. rises-apart (x ∷ l) h (suc k) (suc (suc k)) (omega arith) (omega arith))))
-
 -- and the fact the test
 first-least : {b : ℕ} {l : List ℕ} → Rising b l → 0 < length l → b ≤ getD l 0 0
 first-least flat h = absurd (omega arith)

@@ -3,7 +3,6 @@ use mathlib.Core.Path.{_≡_, refl, sym, _∙_}
 use mathlib.Core.List.{List, [], _∷_, _++_, append-assoc}
 use mathlib.Core.Logic.{⊎-elim}
 use Prim.Native.Nat.{ℕ, zero, suc, _+_, _-_, _≤_, _<_}
-use native.Mathlib.Nat.{zero-add, suc-add}
 use native.Mathlib.Numerals.{add-one}
 use native.Mathlib.Omega.{arith}
 use lib.ListN.{length, take, drop, getD, set, length-append, length-drop, drop-of-length-le, List·getD-append}
@@ -87,3 +86,7 @@ module _ {A : Type 0} where
   pub onto-none : (d : List A) → d ≡ onto d []
   unfolding onto
   onto-none d = refl
+
+-- numbers that are all below m are so in a part
+pub part-below : (a e m : ℕ) (l : List ℕ) → e ≤ length l → ((k : ℕ) → k < length l → getD l k 0 < m) → (k : ℕ) → k < length (part a e l) → getD (part a e l) k 0 < m
+part-below a e m l h f k g = let n = length-part a e l h in rw (getD-part a e l k 0 (omega arith)) (f (a + k) (omega (arith, n)))

@@ -1,12 +1,12 @@
 -- A finite value counted in smallest values, 2 ^ -1074, and the root of a value by its count. Assumes nothing.
 use mathlib.Core.Path.{_≡_, refl, sym, ap, _∙_, subst}
 use Prim.Native.Nat.{ℕ, zero, suc, _+_, _-_, _*_, _/_, _%_, _^_, _≤_, _<_}
-use native.Mathlib.Nat.{lt-of-not-le, lt-irrefl, lt-of-lt-of-le, lt-of-le-of-lt, le-antisymm, zero-mul, mul-one, mul-assoc, mul-comm, mul-right-comm, mul-le-mul-right, le-of-mul-le-mul-right, lt-of-mul-lt-mul-right, mul-lt-mul-of-pos-right, mul-pos, mul-div-cancel}
+use native.Mathlib.Nat.{lt-irrefl, lt-of-le-of-lt, le-antisymm, zero-mul, mul-one, mul-assoc, mul-comm, mul-right-comm, mul-le-mul-right, le-of-mul-le-mul-right, lt-of-mul-lt-mul-right, mul-lt-mul-of-pos-right, mul-pos, mul-div-cancel}
 use native.Mathlib.Omega.{arith}
 use mathlib.Core.Bool.{Bool, true, false, cond, _&&_, true≢false}
 use lib.IntN.{ℤ, pos, negsuc}
 use lib.Dec.{T, leb, ltb, eqb, leb→le, ltb→lt}
-use lib.Pow.{pow-add, pow-pos, pow-mono, pow-lt}
+use lib.Pow.{pow-add, pow-pos}
 use lib.Count.{trailingZeros}
 use lib.Ieee.{Float, nan, inf, fin, binary64, up, down, minus, size, odd, fits}
 use lib.Ieee.Digits.{size-lt, size-le}

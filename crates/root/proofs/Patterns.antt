@@ -7,7 +7,7 @@ use native.Mathlib.Omega.{arith}
 use mathlib.Core.Bool.{Bool, true, false, not, cond}
 use lib.Dec.{T, leb, eqb, lt→ltb}
 use lib.Pow.{pow-pos, pow-mono, shl-lt}
-use lib.Ieee.{Float, nan, inf, fin, binary64, odd, fits, ofFields, ofBits, toBits, nanBits, isNan, ne, eq, div}
+use lib.Ieee.{Float, nan, inf, fin, binary64, odd, fits, ofFields, ofBits, toBits, isNan}
 use lib.Ieee.Bits.{nanBits-is, nanBits-above, ofBits-toBits, ofBits-fits, toBits-ofBits}
 use lib.Ieee.Exact.{odd-sign}
 use lib.Ieee.Fits.{odd-fits, nan-fits, inf-fits}

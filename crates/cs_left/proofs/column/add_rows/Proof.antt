@@ -1,5 +1,4 @@
 -- `add_rows`: the loop of lists/proofs/Entries.antt. Assumes nothing.
-use native.Mathlib.Omega.{arith}
 use lib.ListN.{length}
 use Prim.Native.Nat.{_-_}
 use Rattle.lists.specs.Entries.{plusAt}

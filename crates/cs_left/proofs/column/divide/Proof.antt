@@ -1,5 +1,4 @@
 -- `divide` meets its contract. Assumes nothing.
-use native.Mathlib.Omega.{arith}
 use lib.ListN.{length}
 use Prim.Native.Nat.{_-_}
 use Rattle.cs_left.proofs.Columns.{Dividing, dividing-start, dividing-row, dividing-value, dividing-turn, dividing-long, dividing-end}

@@ -1,6 +1,5 @@
 -- `load` meets its contract. Assumes nothing.
 use mathlib.Core.Logic.{⊎-elim}
-use native.Mathlib.Omega.{arith}
 use lib.ListN.{length}
 use Prim.Native.Nat.{_-_}
 use Rattle.lists.proofs.Entries.{Passing, passing-start, passing-row, passing-value, passing-end}

@@ -1,7 +1,6 @@
 -- `decompose_left_looking` meets its contract. Assumes nothing.
 use Rattle.cs_left.proofs.Ways.{way-w1-long, way-x-long}
-use lib.ListN.{length}
-use mathlib.Core.Path.{refl, _∙_}
+use mathlib.Core.Path.{_∙_}
 use native.Mathlib.Omega.{arith}
 use Rattle.cs_left.proofs.Ways.{strays-asks, way-judged, way-served, way-w1, way-w2, way-x, way-stray, way-asks, way-done}
 use borrow.Author.Needs.{needs}

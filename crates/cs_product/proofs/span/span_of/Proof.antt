@@ -3,7 +3,7 @@ use mathlib.Core.Logic.{⊎-elim}
 use Prim.Native.Nat.{_-_}
 use native.Mathlib.Omega.{arith}
 use lib.ListN.{length}
-use Rattle.cs_product.proofs.Spanning.{Spanning, spanning-start, spanning-done, spanning-on, spanning-off, col-below, col-in-p, handed, first-in, last-in, last-below}
+use Rattle.cs_product.proofs.Spanning.{Spanning, spanning-start, spanning-done, spanning-on, spanning-off, col-below, col-in-p, first-in, last-in}
 use Rattle.cs_product.proofs.span.span_of.Statement.{statement}
 use Rattle.cs_product.proofs.span.span_of.Tie as tie
 
