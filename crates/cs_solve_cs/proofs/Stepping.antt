@@ -1,30 +1,28 @@
 -- The loops over the marked columns. Assumes nothing.
 use mathlib.Core.Path.{_≡_, refl, sym, ap, _∙_}
-use mathlib.Core.Bool.{Bool, true, false, _&&_}
+use mathlib.Core.Bool.{true, false}
 use mathlib.Core.List.{List, [], _∷_, _++_, map}
 use Prim.Native.Nat.{ℕ, _+_, _≤_, _<_}
 use native.Mathlib.Omega.{arith}
-use lib.Ieee.{Float, nan, eq}
+use lib.Ieee.{Float, nan}
 use lib.ListN.{length, getD, set, length-append, length-map, length-set}
 use lib.Seq.{set-out}
 use borrow.Author.Tests.{eq-eqb, ne-eqb}
-use Rattle.lists.specs.Calls.{onto, none}
-use Rattle.lists.specs.Choices.{chosen, keep, firstOr, Found}
+use Rattle.lists.specs.Calls.{onto}
+use Rattle.lists.specs.Choices.{chosen}
 use Rattle.lists.specs.Folds.{along}
 use Rattle.lists.specs.Parts.{part}
-use Rattle.lists.proofs.Choices.{chosen-more, chosen-same, Upward, upward-start, upward-turn, upward-found, upward-end}
+use Rattle.lists.proofs.Choices.{chosen-more, chosen-same}
 use Rattle.lists.proofs.Pairs.{Paired, paired-start, paired-turn}
 use Rattle.lists.proofs.Parts.{onto-more, onto-none, length-onto}
-use Rattle.cs_matrix.specs.Matrix.{Matrix, matrix, valueAt}
-use Rattle.cs_solve.specs.Diagonal.{lacking}
+use Rattle.cs_matrix.specs.Matrix.{matrix, valueAt}
 use Rattle.cs_solve.specs.Solve.{forwardAt, forwardColumn}
-use Rattle.cs_solve.proofs.Columns.{Handed, diagonal-is}
-use Rattle.cs_solve.proofs.Diagonals.{lacking-is}
+use Rattle.cs_solve.proofs.Columns.{Handed}
 use Rattle.cs_solve.proofs.Steps.{length-forwardColumn}
 use Rattle.cs_solve.proofs.Turns.{forward-step}
 use Rattle.cs_solve_cs.specs.SolveCs.{putAt}
 use Rattle.cs_solve_cs.specs.Steps.{marked, marks, Room}
-use Rattle.lists.proofs.Chosen.{along-more, map-more, keep-chosen, chosen-grows, chosen-within}
+use Rattle.lists.proofs.Chosen.{along-more, map-more, chosen-grows, chosen-within}
 
 -- ---- a mark read
 module _ (w : List ℕ) (j : ℕ) where
@@ -33,49 +31,6 @@ module _ (w : List ℕ) (j : ℕ) where
 
   pub not-marked : getD w j 0 ≡ 0 → marked w j ≡ false
   not-marked t = rw (eq-eqb (getD w j 0) 0 t)
-
--- ---- the search for a marked column that lacks its diagonal
-abbrev pub bad : Matrix → List ℕ → ℕ → Bool
-bad a w j = marked w j && lacking a j
-
-bad-marked : (a : Matrix) (w : List ℕ) (j : ℕ) (t : Bool) → (getD w j 0 ≡ 0 → ⊥) → lacking a j ≡ t → bad a w j ≡ t
-bad-marked a w j t h e = rw (is-marked w j h) e
-
-bad-not : (a : Matrix) (w : List ℕ) (j : ℕ) → getD w j 0 ≡ 0 → bad a w j ≡ false
-bad-not a w j h = rw (not-marked w j h)
-
--- the search for the first such column
-pub record Seeking (n : ℕ) (p i : List ℕ) (v : List Float) (w : List ℕ) (j : ℕ) : Type 0 where
-  pub up : Upward n (bad (matrix n n p i v) w) j
-
-pub seeking-start : (n : ℕ) (p i : List ℕ) (v : List Float) (w : List ℕ) → Seeking n p i v w 0
-seeking-start n p i v w = record { up = upward-start n (bad (matrix n n p i v) w) }
-
-module _ {n : ℕ} {p i : List ℕ} {v : List Float} {w : List ℕ} {j : ℕ} (s : Seeking n p i v w j) where
-  abbrev a : Matrix
-  a = matrix n n p i v
-
-  abbrev bads : List ℕ
-  bads = keep (lacking a) (marks n w)
-
-  found-kept : {r : ℕ} → Found n (chosen n (bad a w)) (firstOr 0 (chosen n (bad a w))) r → Found n bads (firstOr 0 bads) r
-  unfolding marks
-  found-kept f = rw (keep-chosen n (lacking a) (marked w)) f
-
-  lacks : (t : Bool) → (getD w j 0 ≡ 0 → ⊥) → {b e : ℕ} {d : Float} → Handed p i v j b e → d ≡ valueAt j (part b e i) (part b e v) → eq d none ≡ t → bad a w j ≡ t
-  lacks t h c q u = bad-marked a w j t h (lacking-is a j (diagonal-is n n c q) u)
-
-  pub seeking-found : j < n → (getD w j 0 ≡ 0 → ⊥) → {b e : ℕ} {d : Float} → Handed p i v j b e → d ≡ valueAt j (part b e i) (part b e v) → eq d none ≡ true → Found n bads (firstOr 0 bads) j
-  seeking-found g h c q u = found-kept (upward-found (s .up) g (lacks true h c q u))
-
-  pub seeking-on : j < n → (getD w j 0 ≡ 0 → ⊥) → {b e : ℕ} {d : Float} → Handed p i v j b e → d ≡ valueAt j (part b e i) (part b e v) → eq d none ≡ false → Seeking n p i v w (j + 1)
-  seeking-on g h c q u = record { up = upward-turn (s .up) g (lacks false h c q u) }
-
-  pub seeking-off : j < n → getD w j 0 ≡ 0 → Seeking n p i v w (j + 1)
-  seeking-off g h = record { up = upward-turn (s .up) g (bad-not a w j h) }
-
-  pub seeking-end : n ≤ j → Found n bads (firstOr 0 bads) j
-  seeking-end g = found-kept (upward-end (s .up) g)
 
 -- ---- the values put at their rows
 pub record Putting (rows : List ℕ) (vals x₀ x : List Float) (k : ℕ) : Type 0 where

@@ -121,10 +121,10 @@ module _ (n : ℕ) (p i : List ℕ) (v : List Float) (bi : List ℕ) (bv : List 
       pub room : {x : List Float} → n ≤ length w → n ≤ length x → Room n w x (old .i) (old .v)
       room j k = record { small = h; w-long = j; x-long = k; in-i = rw u (omega (arith, e)); in-v = rw u (omega (arith, e)) }
 
-      module _ {q : ℕ} (d : Found n (keep (lacking a) (marks n w)) (firstOr 0 (keep (lacking a) (marks n w))) q) where
+      module _ {q : ℕ} (d : Found n (keep (lacking a) l) (firstOr 0 (keep (lacking a) l)) q) where
         lacks : Found n (lackingReached a b) (firstOr 0 (lackingReached a b)) q
         unfolding lackingReached
-        lacks = rw u at d
+        lacks = d
 
         pub at-10 : q < n → Served (record { number = 10; column = q }) old
         unfolding later answer outputs

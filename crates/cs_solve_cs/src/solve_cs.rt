@@ -8,7 +8,6 @@ ghost use Rattle.cs_solve_cs.specs.Agree.{Promised};
 ghost use Rattle.cs_solve_cs.specs.SolveCs.{judgedCs, stored, written, solution, later, lackingReached, number};
 ghost use Rattle.cs_solve_cs.specs.Steps.{Ready};
 use crate::reach::reach;
-use crate::steps::first_lacking;
 use crate::steps::forward;
 use crate::steps::gather;
 use crate::steps::put;
@@ -55,24 +54,23 @@ fn serve(
         let m = lowest (later a b old) in
         (r ≡ answer m (firstOr 0 (lackingReached a b))) × (new ≡ outputs m (written (solution a b) old) old)) ⌝ }
 {
-    let count = reach(n, p, i, v, bi, w);
-    if xi.len() < count {
+    let found = reach(n, p, i, v, bi, w);
+    if xi.len() < found.count {
         return Solved {
             number: 7,
             column: 0,
         };
     }
-    if xv.len() < count {
+    if xv.len() < found.count {
         return Solved {
             number: 7,
             column: 0,
         };
     }
-    let lacking = first_lacking(n, p, i, v, w);
-    if lacking < n {
+    if found.lacking < n {
         return Solved {
             number: 10,
-            column: lacking as u32,
+            column: found.lacking as u32,
         };
     }
     put(bi, bv, x);

@@ -1,39 +1,18 @@
-// The steps over the marked columns: 10, the values, the forward steps, the result.
+// The steps over the marked columns: the values, the forward steps, the result.
 ghost use mathlib.Core.Path.{_≡_};
 ghost use Prim.Native.Nat.{_≤_};
 ghost use mathlib.Core.List.{map};
 ghost use lib.Ieee.{nan};
 ghost use lib.ListN.{length, getD};
 ghost use Rattle.lists.specs.Calls.{onto};
-ghost use Rattle.lists.specs.Choices.{Found, firstOr, keep};
 ghost use Rattle.lists.specs.Folds.{along, over};
 ghost use Rattle.cs_matrix.specs.Matrix.{matrix, Valid};
-ghost use Rattle.cs_solve.specs.Diagonal.{lacking};
 ghost use Rattle.cs_solve.specs.Solve.{forwardColumn};
 ghost use Rattle.cs_solve_cs.specs.SolveCs.{putAt};
 ghost use Rattle.cs_solve_cs.specs.Steps.{marks, Room};
 use cs_solve::diagonal::value_at;
 use cs_solve::solve::forward_at;
 use lists::numbers::wide;
-
-// The lowest marked column whose diagonal is absent or zero, or n.
-pub fn first_lacking(n: usize, p: &[u32], i: &[u32], v: &[f64], w: &[u32]) -> usize
-    requires { ⌜ Valid (matrix n n (now p) (now i) (now v)) × (n ≤ length (now w)) ⌝ }
-    ensures { λ r. ⌜ (let l = keep (lacking (matrix n n (now (p .entry)) (now (i .entry)) (now (v .entry)))) (marks n (now (w .entry))) in Found n l (firstOr 0 l) r) ⌝ }
-{
-    let mut j = 0;
-    while j < n {
-        if w[j] != 0 {
-            let a = wide(p[j]);
-            let e = wide(p[j + 1]);
-            if value_at(j, &i[a..e], &v[a..e]) == 0.0 {
-                return j;
-            }
-        }
-        j += 1;
-    }
-    j
-}
 
 // Each value at its row.
 pub fn put(rows: &[u32], vals: &[f64], x: &mut [f64])

@@ -32,3 +32,4 @@ pub mod Runs
 pub mod Entries
 pub mod Positions
 pub mod Standing
+pub mod Finding

@@ -5,16 +5,16 @@ use Prim.Native.Nat.{_-_}
 use native.Mathlib.Omega.{arith}
 use lib.ListN.{length, length-replicate}
 use borrow.Author.Needs.{needs}
-use Rattle.cs_solve_cs.proofs.Reaching.{Reaching, reaching-start, reaching-on, reaching-off, reaching-end, count-small}
+use Rattle.cs_solve_cs.proofs.Reaching.{Reaching, reaching-start, reaching-on, reaching-off, seen-before, seen-new, seen-not, reaching-end, count-small}
 use Rattle.cs_solve.proofs.Columns.{handed, j-small}
 use Rattle.cs_solve_cs.proofs.reach.reach.Statement.{statement}
 use Rattle.cs_solve_cs.proofs.reach.reach.Tie as tie
 
 abbrev Inv-loop : tie.InvT-loop
-Inv-loop n p i v bi w₀ count₀ j₀ w count j = Reaching n p i v bi w count j
+Inv-loop n p i v bi w₀ count₀ lacking₀ j₀ w count lacking j = Reaching n p i v bi w count lacking j
 
 abbrev μ-loop : tie.MeasureT-loop
-μ-loop n p i v bi w₀ count₀ j₀ w count j = n - j
+μ-loop n p i v bi w₀ count₀ lacking₀ j₀ w count lacking j = n - j
 
 mark-requires : tie.Need-mark-requires Inv-loop μ-loop
 mark-requires c κs = search needs
@@ -52,6 +52,33 @@ shared-slice-read-wide-2 c = search needs
 wide-requires-2 : tie.Need-wide-requires-2 Inv-loop μ-loop
 wide-requires-2 c κs = search needs
 
+mul-value-at : tie.Need-mul-value-at Inv-loop μ-loop
+mul-value-at c = search needs
+
+sub-value-at : tie.Need-sub-value-at Inv-loop μ-loop
+sub-value-at c = (handed (c .before .before .before .before .before .before .before .before .loop .inv .valid) (c .before .before .before .before .before .before .before .loop-test .taken) (c .before .before .before .wide .ensures .0) (c .before .wide2 .ensures .0)) .order
+
+part-value-at-start : tie.Need-part-value-at-start Inv-loop μ-loop
+part-value-at-start c = (handed (c .before .before .before .before .before .before .before .before .loop .inv .valid) (c .before .before .before .before .before .before .before .loop-test .taken) (c .before .before .before .wide .ensures .0) (c .before .wide2 .ensures .0)) .order
+
+part-value-at-end : tie.Need-part-value-at-end Inv-loop μ-loop
+part-value-at-end c = (handed (c .before .before .before .before .before .before .before .before .loop .inv .valid) (c .before .before .before .before .before .before .before .loop-test .taken) (c .before .before .before .wide .ensures .0) (c .before .wide2 .ensures .0)) .inside
+
+mul-value-at-2 : tie.Need-mul-value-at-2 Inv-loop μ-loop
+mul-value-at-2 c = search needs
+
+sub-value-at-2 : tie.Need-sub-value-at-2 Inv-loop μ-loop
+sub-value-at-2 c = (handed (c .before .before .before .before .before .before .before .before .before .loop .inv .valid) (c .before .before .before .before .before .before .before .before .loop-test .taken) (c .before .before .before .before .wide .ensures .0) (c .before .before .wide2 .ensures .0)) .order
+
+part-value-at-start-2 : tie.Need-part-value-at-start-2 Inv-loop μ-loop
+part-value-at-start-2 c = (handed (c .before .before .before .before .before .before .before .before .before .loop .inv .valid) (c .before .before .before .before .before .before .before .before .loop-test .taken) (c .before .before .before .before .wide .ensures .0) (c .before .before .wide2 .ensures .0)) .order
+
+part-value-at-end-2 : tie.Need-part-value-at-end-2 Inv-loop μ-loop
+part-value-at-end-2 c = (handed (c .before .before .before .before .before .before .before .before .before .loop .inv .valid) (c .before .before .before .before .before .before .before .before .loop-test .taken) (c .before .before .before .before .wide .ensures .0) (c .before .before .wide2 .ensures .0)) .inside-v
+
+value-at-requires : tie.Need-value-at-requires Inv-loop μ-loop
+value-at-requires c κs = search needs
+
 add-mark : tie.Need-add-mark Inv-loop μ-loop
 add-mark c = search needs
 
@@ -59,13 +86,13 @@ mul-mark : tie.Need-mul-mark Inv-loop μ-loop
 mul-mark c = search needs
 
 sub-mark : tie.Need-sub-mark Inv-loop μ-loop
-sub-mark c = (handed (c .before .before .before .before .before .before .before .loop .inv .valid) (c .before .before .before .before .before .before .loop-test .taken) (c .before .before .wide .ensures .0) (c .wide2 .ensures .0)) .order
+sub-mark c = (handed (c .before .before .before .before .before .before .before .before .loop .inv .valid) (c .before .before .before .before .before .before .before .loop-test .taken) (c .before .before .before .wide .ensures .0) (c .before .wide2 .ensures .0)) .order
 
 part-mark-start : tie.Need-part-mark-start Inv-loop μ-loop
-part-mark-start c = (handed (c .before .before .before .before .before .before .before .loop .inv .valid) (c .before .before .before .before .before .before .loop-test .taken) (c .before .before .wide .ensures .0) (c .wide2 .ensures .0)) .order
+part-mark-start c = (handed (c .before .before .before .before .before .before .before .before .loop .inv .valid) (c .before .before .before .before .before .before .before .loop-test .taken) (c .before .before .before .wide .ensures .0) (c .before .wide2 .ensures .0)) .order
 
 part-mark-end : tie.Need-part-mark-end Inv-loop μ-loop
-part-mark-end c = (handed (c .before .before .before .before .before .before .before .loop .inv .valid) (c .before .before .before .before .before .before .loop-test .taken) (c .before .before .wide .ensures .0) (c .wide2 .ensures .0)) .inside
+part-mark-end c = (handed (c .before .before .before .before .before .before .before .before .loop .inv .valid) (c .before .before .before .before .before .before .before .loop-test .taken) (c .before .before .before .wide .ensures .0) (c .before .wide2 .ensures .0)) .inside
 
 mark-requires-2 : tie.Need-mark-requires-2 Inv-loop μ-loop
 mark-requires-2 c κs = search needs
@@ -77,7 +104,21 @@ loop-less : tie.Need-loop-less Inv-loop μ-loop
 loop-less c = omega (arith, c .before .before .loop-test .taken)
 
 loop-again : tie.Need-loop-again Inv-loop μ-loop
-loop-again c = let r = c .before .before .before .loop .inv in let h = c .before .before .loop-test .taken in ⊎-elim (λ t. rw (t .10, t .11) (reaching-on r h (t .0 .taken) (handed (r .valid) h (t .2 .ensures .0) (t .4 .ensures .0)) (t .7 .ensures))) (λ t. rw (t .1, t .2) (reaching-off r h (t .0 .left))) (c .if1 .came)
+loop-again c =
+    let r = c .before .before .before .loop .inv in
+    let h = c .before .before .loop-test .taken in
+    ⊎-elim
+    (λ t.
+    let b = handed (r .valid) h (t .2 .ensures .0) (t .4 .ensures .0) in
+    rw (t .11, t .12, t .13)
+    (reaching-on r h (t .0 .taken) b
+    (⊎-elim
+    (λ u. rw (u .5) (seen-new r h b (u .3 .ensures) (u .0 .taken) (u .4 .taken)))
+    (λ u. rw (u .1) (⊎-elim (λ s. seen-not r h b (s .3 .ensures) (s .4 .left)) (λ s. seen-before r h (s .left)) (u .0 .came)))
+    (t .5 .came))
+    (t .8 .ensures)))
+    (λ t. rw (t .1, t .2, t .3) (reaching-off r h (t .0 .left)))
+    (c .if1 .came)
 
 same-length : tie.Need-same-length Inv-loop μ-loop
 same-length c = c .before .loop .inv .long ∙ sym (ap length (c .before .before .before .before .before .before .before .before .before .before .before .pre .1) ∙ length-replicate _ _)
@@ -103,6 +144,15 @@ reach-spec =
     mul-wide-2
     shared-slice-read-wide-2
     wide-requires-2
+    mul-value-at
+    sub-value-at
+    part-value-at-start
+    part-value-at-end
+    mul-value-at-2
+    sub-value-at-2
+    part-value-at-start-2
+    part-value-at-end-2
+    value-at-requires
     add-mark
     mul-mark
     sub-mark

@@ -14,37 +14,34 @@ reach-requires : tie.Need-reach-requires
 reach-requires c κs = (c .before .before .before .before .before .before .before .before .before .before .pre .valid, c .before .before .before .before .before .before .before .before .before .before .pre .clean)
 
 same-length : tie.Need-same-length
-same-length c = c .before .before .before .reach .kept .1 .1 .1 .1 .1 .0
+same-length c = c .before .before .before .before .reach .kept .1 .1 .1 .1 .1 .0
 
 returns : tie.Need-returns
-returns c = at-7-i _ _ _ _ _ _ _ (c .before .before .before .before .before .before .before .before .before .before .before .before .before .before .pre .valid .pattern .cols) (c .before .before .before .reach .ensures .1) (c .if1 .taken)
+returns c = at-7-i _ _ _ _ _ _ _ (c .before .before .before .before .before .before .before .before .before .before .before .before .before .before .before .pre .valid .pattern .cols) (c .before .before .before .before .reach .ensures .1) (c .if1 .taken)
 
 same-length-2 : tie.Need-same-length-2
-same-length-2 c = c .before .before .before .before .reach .kept .1 .1 .1 .1 .1 .0
+same-length-2 c = c .before .before .before .before .before .before .reach .kept .1 .1 .1 .1 .1 .0
 
 returns-2 : tie.Need-returns-2
-returns-2 c = at-7-v _ _ _ _ _ _ _ (c .before .before .before .before .before .before .before .before .before .before .before .before .before .before .before .pre .valid .pattern .cols) (c .before .before .before .before .reach .ensures .1) (c .before .if1 .left) (c .if2 .taken)
+returns-2 c = at-7-v _ _ _ _ _ _ _ (c .before .before .before .before .before .before .before .before .before .before .before .before .before .before .before .before .before .pre .valid .pattern .cols) (c .before .before .before .before .before .before .reach .ensures .1) (c .before .before .if1 .left) (c .if2 .taken)
 
-first-lacking-requires : tie.Need-first-lacking-requires
-first-lacking-requires c κs = (c .before .before .before .before .before .before .before .before .before .before .before .before .before .before .before .before .pre .valid, omega (arith, c .before .before .before .before .before .reach .kept .1 .1 .1 .1 .1 .0, ap length (c .before .before .before .before .before .before .before .before .before .before .before .before .before .before .before .before .pre .clean), length-replicate {A = ℕ} (c .before .before .before .before .before .before .before .before .before .before .before .before .before .before .before .before .args .n) 0))
-
-cast-t19 : tie.Need-cast-t19
-cast-t19 c = omega (arith, c .if3 .taken, c .before .before .before .before .before .before .before .before .before .before .before .before .before .before .before .before .before .before .pre .valid .pattern .cols)
+cast-t16 : tie.Need-cast-t16
+cast-t16 c = omega (arith, c .before .if3 .taken, c .before .before .before .before .before .before .before .before .before .before .before .before .before .before .before .before .before .before .before .before .pre .valid .pattern .cols)
 
 same-length-3 : tie.Need-same-length-3
-same-length-3 c = c .before .before .before .before .before .before .before .reach .kept .1 .1 .1 .1 .1 .0
+same-length-3 c = c .before .before .before .before .before .before .before .before .before .reach .kept .1 .1 .1 .1 .1 .0
 
 returns-3 : tie.Need-returns-3
-returns-3 c = at-10 _ _ _ _ _ _ _ (c .before .before .before .before .before .before .before .before .before .before .before .before .before .before .before .before .before .before .pre .valid .pattern .cols) (c .before .before .before .before .before .before .before .reach .ensures .1) (c .before .before .before .before .if1 .left) (c .before .before .before .if2 .left) _ (c .before .before .before .before .before .before .before .reach .ensures .0) (c .before .first-lacking .ensures) (c .if3 .taken)
+returns-3 c = at-10 _ _ _ _ _ _ _ (c .before .before .before .before .before .before .before .before .before .before .before .before .before .before .before .before .before .before .before .before .pre .valid .pattern .cols) (c .before .before .before .before .before .before .before .before .before .reach .ensures .1) (c .before .before .before .before .before .if1 .left) (c .before .before .before .if2 .left) _ (c .before .before .before .before .before .before .before .before .before .reach .ensures .0) (c .before .before .before .before .before .before .before .before .before .reach .ensures .2) (c .before .if3 .taken)
 
 put-requires : tie.Need-put-requires
 put-requires c κs = search needs
 
 forward-requires : tie.Need-forward-requires
-forward-requires c κs = (c .before .before .before .before .before .before .before .before .before .before .before .before .before .before .before .before .before .before .before .before .before .before .before .before .pre .valid, omega (arith, c .before .before .before .before .before .before .before .before .before .before .before .before .before .reach .kept .1 .1 .1 .1 .1 .0, ap length (c .before .before .before .before .before .before .before .before .before .before .before .before .before .before .before .before .before .before .before .before .before .before .before .before .pre .clean), length-replicate {A = ℕ} (c .before .before .before .before .before .before .before .before .before .before .before .before .before .before .before .before .before .before .before .before .before .before .before .before .args .n) 0))
+forward-requires c κs = (c .before .before .before .before .before .before .before .before .before .before .before .before .before .before .before .before .before .before .before .before .before .before .before .before .before .pre .valid, omega (arith, c .before .before .before .before .before .before .before .before .before .before .before .before .before .before .reach .kept .1 .1 .1 .1 .1 .0, ap length (c .before .before .before .before .before .before .before .before .before .before .before .before .before .before .before .before .before .before .before .before .before .before .before .before .before .pre .clean), length-replicate {A = ℕ} (c .before .before .before .before .before .before .before .before .before .before .before .before .before .before .before .before .before .before .before .before .before .before .before .before .before .args .n) 0))
 
 gather-requires : tie.Need-gather-requires
-gather-requires c κs = room _ _ _ (c .before .before .before .before .before .before .before .before .before .before .before .before .before .before .before .before .before .before .before .before .before .before .before .before .before .before .before .before .before .before .before .args .v .now) _ (c .before .before .before .before .before .before .before .before .before .before .before .before .before .before .before .before .before .before .before .before .before .before .before .before .before .before .before .before .before .before .before .args .bv .now) _ (c .before .before .before .before .before .before .before .before .before .before .before .before .before .before .before .before .before .before .before .before .before .before .before .before .before .before .before .before .before .before .before .pre .valid .pattern .cols) (c .before .before .before .before .before .before .before .before .before .before .before .before .before .before .before .before .before .before .before .before .reach .ensures .1) (c .before .before .before .before .before .before .before .before .before .before .before .before .before .before .before .before .before .if1 .left) (c .before .before .before .before .before .before .before .before .before .before .before .before .before .before .before .before .if2 .left) _ (c .before .before .before .before .before .before .before .before .before .before .before .before .before .before .before .before .before .before .before .before .reach .ensures .0) (omega (arith, c .before .before .before .before .before .before .before .before .before .before .before .before .before .before .before .before .before .before .before .before .reach .kept .1 .1 .1 .1 .1 .0, ap length (c .before .before .before .before .before .before .before .before .before .before .before .before .before .before .before .before .before .before .before .before .before .before .before .before .before .before .before .before .before .before .before .pre .clean), length-replicate {A = ℕ} (c .before .before .before .before .before .before .before .before .before .before .before .before .before .before .before .before .before .before .before .before .before .before .before .before .before .before .before .before .before .before .before .args .n) 0)) (omega (arith, c .before .before .before .before .before .before .forward .kept .1 .1 .1 .1 .1 .0, c .before .before .before .before .before .before .before .before .before .before .before .put .kept .1 .1 .0, ap length (c .before .before .before .before .before .before .before .before .before .before .before .before .before .before .before .before .before .before .before .before .before .before .before .before .before .before .before .before .before .before .before .pre .zeros), length-replicate {A = Float} (c .before .before .before .before .before .before .before .before .before .before .before .before .before .before .before .before .before .before .before .before .before .before .before .before .before .before .before .before .before .before .before .args .n) none))
+gather-requires c κs = room _ _ _ (c .before .before .before .before .before .before .before .before .before .before .before .before .before .before .before .before .before .before .before .before .before .before .before .before .before .before .before .before .before .before .before .before .args .v .now) _ (c .before .before .before .before .before .before .before .before .before .before .before .before .before .before .before .before .before .before .before .before .before .before .before .before .before .before .before .before .before .before .before .before .args .bv .now) _ (c .before .before .before .before .before .before .before .before .before .before .before .before .before .before .before .before .before .before .before .before .before .before .before .before .before .before .before .before .before .before .before .before .pre .valid .pattern .cols) (c .before .before .before .before .before .before .before .before .before .before .before .before .before .before .before .before .before .before .before .before .before .reach .ensures .1) (c .before .before .before .before .before .before .before .before .before .before .before .before .before .before .before .before .before .if1 .left) (c .before .before .before .before .before .before .before .before .before .before .before .before .before .before .before .if2 .left) _ (c .before .before .before .before .before .before .before .before .before .before .before .before .before .before .before .before .before .before .before .before .before .reach .ensures .0) (omega (arith, c .before .before .before .before .before .before .before .before .before .before .before .before .before .before .before .before .before .before .before .before .before .reach .kept .1 .1 .1 .1 .1 .0, ap length (c .before .before .before .before .before .before .before .before .before .before .before .before .before .before .before .before .before .before .before .before .before .before .before .before .before .before .before .before .before .before .before .before .pre .clean), length-replicate {A = ℕ} (c .before .before .before .before .before .before .before .before .before .before .before .before .before .before .before .before .before .before .before .before .before .before .before .before .before .before .before .before .before .before .before .before .args .n) 0)) (omega (arith, c .before .before .before .before .before .before .forward .kept .1 .1 .1 .1 .1 .0, c .before .before .before .before .before .before .before .before .before .before .before .put .kept .1 .1 .0, ap length (c .before .before .before .before .before .before .before .before .before .before .before .before .before .before .before .before .before .before .before .before .before .before .before .before .before .before .before .before .before .before .before .before .pre .zeros), length-replicate {A = Float} (c .before .before .before .before .before .before .before .before .before .before .before .before .before .before .before .before .before .before .before .before .before .before .before .before .before .before .before .before .before .before .before .before .args .n) none))
 
 same-length-4 : tie.Need-same-length-4
 same-length-4 c = c .before .before .before .before .gather .kept .1 .1 .1 .0
@@ -53,13 +50,13 @@ same-length-5 : tie.Need-same-length-5
 same-length-5 c = c .before .before .before .before .gather .kept .1 .1 .1 .1 .0
 
 same-length-6 : tie.Need-same-length-6
-same-length-6 c = c .before .before .before .before .before .before .before .before .before .before .before .before .before .before .before .before .before .before .before .before .before .before .before .before .before .reach .kept .1 .1 .1 .1 .1 .0
+same-length-6 c = c .before .before .before .before .before .before .before .before .before .before .before .before .before .before .before .before .before .before .before .before .before .before .before .before .before .before .reach .kept .1 .1 .1 .1 .1 .0
 
 same-length-7 : tie.Need-same-length-7
 same-length-7 c = c .before .before .before .before .before .before .before .before .before .before .before .forward .kept .1 .1 .1 .1 .1 .0 ∙ c .before .before .before .before .before .before .before .before .before .before .before .before .before .before .before .before .put .kept .1 .1 .0
 
 returns-4 : tie.Need-returns-4
-returns-4 c = at-end _ _ _ _ _ _ _ (c .before .before .before .before .before .before .before .before .before .before .before .before .before .before .before .before .before .before .before .before .before .before .before .before .before .before .before .before .before .before .before .before .before .before .before .before .pre .valid .pattern .cols) (c .before .before .before .before .before .before .before .before .before .before .before .before .before .before .before .before .before .before .before .before .before .before .before .before .before .reach .ensures .1) (c .before .before .before .before .before .before .before .before .before .before .before .before .before .before .before .before .before .before .before .before .before .before .if1 .left) (c .before .before .before .before .before .before .before .before .before .before .before .before .before .before .before .before .before .before .before .before .before .if2 .left) _ (c .before .before .before .before .before .before .before .before .before .before .before .before .before .before .before .before .before .before .before .before .before .before .before .before .before .reach .ensures .0) (c .before .before .before .before .before .before .before .before .before .before .before .before .before .before .before .before .before .before .before .first-lacking .ensures) (c .before .before .before .before .before .before .before .before .before .before .before .before .before .before .before .before .before .before .if3 .left) (c .before .before .before .before .before .before .before .before .before .before .before .before .before .before .before .before .before .before .before .before .before .before .before .before .before .before .before .before .before .before .before .before .before .before .before .before .pre .zeros) (c .before .before .before .before .before .before .before .before .before .before .before .before .before .before .before .before .put .ensures) (c .before .before .before .before .before .before .before .before .before .before .before .forward .ensures) (c .before .before .before .before .gather .ensures .0) (c .before .before .before .before .gather .ensures .1)
+returns-4 c = at-end _ _ _ _ _ _ _ (c .before .before .before .before .before .before .before .before .before .before .before .before .before .before .before .before .before .before .before .before .before .before .before .before .before .before .before .before .before .before .before .before .before .before .before .before .before .pre .valid .pattern .cols) (c .before .before .before .before .before .before .before .before .before .before .before .before .before .before .before .before .before .before .before .before .before .before .before .before .before .before .reach .ensures .1) (c .before .before .before .before .before .before .before .before .before .before .before .before .before .before .before .before .before .before .before .before .before .before .if1 .left) (c .before .before .before .before .before .before .before .before .before .before .before .before .before .before .before .before .before .before .before .before .if2 .left) _ (c .before .before .before .before .before .before .before .before .before .before .before .before .before .before .before .before .before .before .before .before .before .before .before .before .before .before .reach .ensures .0) (c .before .before .before .before .before .before .before .before .before .before .before .before .before .before .before .before .before .before .before .before .before .before .before .before .before .before .reach .ensures .2) (c .before .before .before .before .before .before .before .before .before .before .before .before .before .before .before .before .before .before .if3 .left) (c .before .before .before .before .before .before .before .before .before .before .before .before .before .before .before .before .before .before .before .before .before .before .before .before .before .before .before .before .before .before .before .before .before .before .before .before .before .pre .zeros) (c .before .before .before .before .before .before .before .before .before .before .before .before .before .before .before .before .put .ensures) (c .before .before .before .before .before .before .before .before .before .before .before .forward .ensures) (c .before .before .before .before .gather .ensures .0) (c .before .before .before .before .gather .ensures .1)
 
 pub serve-spec : {M : Type 1} → statement M
 serve-spec =
@@ -70,8 +67,7 @@ serve-spec =
     returns
     same-length-2
     returns-2
-    first-lacking-requires
-    cast-t19
+    cast-t16
     same-length-3
     returns-3
     put-requires
