@@ -53,7 +53,7 @@ module _ {n : ℕ} {l m : List ℕ} {count ka kb : ℕ} (v : Counting n l m coun
     counting-both g h o = record { found = v .found ++ (r ∷ []); merging = merging-both (v .merging) er es (omega arith) o; count-is = omega (arith, one-longer (v .found) r, v .count-is) }
 
 -- ---- the values
-given : (rows : List ℕ) (vals : List Float) (k r : ℕ) → rises rows ≡ true → length vals ≡ length rows → k < length rows → r ≡ getD rows k end → mul binary64 (getD vals k nan) one ≡ gives r rows vals
+pub given : (rows : List ℕ) (vals : List Float) (k r : ℕ) → rises rows ≡ true → length vals ≡ length rows → k < length rows → r ≡ getD rows k end → mul binary64 (getD vals k nan) one ≡ gives r rows vals
 unfolding gives
 given rows vals k r u e h g =
     ap (λ (x : Float). mul binary64 x one)
@@ -68,7 +68,7 @@ module _ (ai : List ℕ) (av : List Float) (bi : List ℕ) (bv : List Float) (r 
   unfolding summedAt
   of-second g h = rw (h, g)
 
-  of-both : lists r ai ≡ true → lists r bi ≡ true → add binary64 (gives r ai av) (gives r bi bv) ≡ summedAt ai av bi bv r
+  pub of-both : lists r ai ≡ true → lists r bi ≡ true → add binary64 (gives r ai av) (gives r bi bv) ≡ summedAt ai av bi bv r
   unfolding summedAt
   of-both g h = rw (h, g)
 

@@ -1,11 +1,13 @@
 -- What the private steps of the sum ask. No public contract names these. Assumes nothing.
-use mathlib.Core.Bool.{true}
+use mathlib.Core.Bool.{Bool, true, _&&_}
 use mathlib.Core.List.{List}
 use mathlib.Core.Path.{_≡_}
 use Prim.Native.Nat.{ℕ, _+_, _<_, _≤_}
+use lib.Dec.{eqb}
 use lib.Ieee.{Float}
 use lib.ListN.{length, getD}
 use Rattle.lists.specs.Choices.{chosen}
+use Rattle.lists.specs.Folds.{every}
 use Rattle.lists.specs.Order.{rises}
 use Rattle.cs_matrix.specs.Matrix.{Matrix, Stored, Valid}
 use Rattle.cs_columns.specs.Columns.{either, joined}
@@ -27,6 +29,17 @@ pub record Column (n at : ℕ) (ai : List ℕ) (av : List Float) (bi : List ℕ)
   pub few : at + length (chosen n (either ai bi)) ≤ 4194304
   pub in-i : at + length (chosen n (either ai bi)) ≤ length oi
   pub in-v : at + length (chosen n (either ai bi)) ≤ length ov
+
+-- the two lists have the same elements
+unfoldable pub sameRows : List ℕ → List ℕ → Bool
+sameRows l m = eqb (length l) (length m) && every (length l) (λ k. eqb (getD l k 0) (getD m k 0))
+
+-- as many values as rows, and as many places for them
+pub record Places (rows : List ℕ) (av bv : List Float) (oi : List ℕ) (ov : List Float) : Type 0 where
+  pub a-alike : length av ≡ length rows
+  pub b-alike : length bv ≡ length rows
+  pub i-alike : length oi ≡ length rows
+  pub v-alike : length ov ≡ length rows
 
 -- two valid matrices
 pub record Alike (a b : Matrix) : Type 0 where

@@ -1,3 +1,4 @@
 // The sum of two matrices, after cs_matrix_ops.rs.
+mod alike;
 mod merge;
 pub mod sum;

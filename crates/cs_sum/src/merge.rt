@@ -7,6 +7,8 @@ ghost use Rattle.lists.specs.Choices.{chosen};
 ghost use Rattle.cs_columns.specs.Columns.{either, laid};
 ghost use Rattle.cs_sum.specs.Steps.{Risen, Column};
 ghost use Rattle.cs_sum.specs.Sum.{summedAt};
+use crate::alike::add_values;
+use crate::alike::same_rows;
 use cs_columns::rows::row_at;
 
 // How many different rows two columns have.
@@ -33,8 +35,8 @@ pub fn count_rows(nrows: usize, ai: &[u32], bi: &[u32]) -> usize
     count
 }
 
-// The rows of two columns with their sums, written from `start` on. The answer is the place behind them.
-pub fn merge(
+// The rows of two columns with their sums, written from `start` on, row by row. The answer is the place behind them.
+fn walk(
     nrows: usize,
     start: usize,
     ai: &[u32],
@@ -76,4 +78,28 @@ pub fn merge(
         at += 1;
     }
     at
+}
+
+// The same, where columns that have the same rows are taken side by side.
+pub fn merge(
+    nrows: usize,
+    start: usize,
+    ai: &[u32],
+    av: &[f64],
+    bi: &[u32],
+    bv: &[f64],
+    oi: &mut [u32],
+    ov: &mut [f64],
+) -> usize
+    requires { ⌜ Column nrows start (now ai) (now av) (now bi) (now bv) (now oi) (now ov) ⌝ }
+    ensures { λ r. ⌜ (let rows = chosen nrows (either (now (ai .entry)) (now (bi .entry))) in
+        let vals = map (summedAt (now (ai .entry)) (now (av .entry)) (now (bi .entry)) (now (bv .entry))) rows in
+        (r ≡ start + length rows) × (now (oi .exit) ≡ laid start (now (oi .entry)) rows) × (now (ov .exit) ≡ laid start (now (ov .entry)) vals)) ⌝ }
+{
+    if same_rows(ai, bi) {
+        let end = start + ai.len();
+        add_values(ai, av, bv, &mut oi[start..end], &mut ov[start..end]);
+        return end;
+    }
+    walk(nrows, start, ai, av, bi, bv, oi, ov)
 }
