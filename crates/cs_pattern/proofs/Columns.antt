@@ -1,9 +1,11 @@
 -- The columns of a valid pattern: how many, each the part between its two pointers. Assumes nothing.
 use mathlib.Core.Path.{_≡_, refl, sym, ap, _∙_}
+use mathlib.Core.Bool.{true}
 use mathlib.Core.List.{List, []}
 use Prim.Native.Nat.{ℕ, _+_, _≤_, _<_}
 use native.Mathlib.Omega.{arith}
 use lib.ListN.{length, getD}
+use Rattle.lists.specs.Order.{rises}
 use Rattle.lists.specs.Parts.{part}
 use Rattle.lists.proofs.Parts.{length-part}
 use Rattle.lists.proofs.Tables.{length-table, getD-table}
@@ -62,3 +64,6 @@ module _ {n : ℕ} {p i : List ℕ} (v : ValidPattern (pattern n n p i)) where
 
     pub part-few : length (part a e i) ≤ 4194304
     part-few = omega (arith, length-part a e i (here .inside), here .inside, v .entries)
+
+    pub part-rises : rises (part a e i) ≡ true
+    part-rises = rw (column-is here i) (v .rise k h)

@@ -22,3 +22,4 @@ pub mod Lowering
 pub mod Reread
 pub mod Backward
 pub mod Looking
+pub mod Past
