@@ -6,6 +6,7 @@ ghost use mathlib.Core.Path.{_≡_};
 ghost use Prim.Native.Nat.{ℕ, _+_, _≤_, _<_, _^_};
 ghost use lib.ListN.{length, getD};
 ghost use Rattle.lists.specs.Keeping.{Kept};
+ghost use Rattle.lists.specs.Order.{rises};
 ghost use Rattle.cs_matrix.specs.Matrix.{pattern, ValidPattern};
 ghost use Rattle.cs_tree.specs.Backward.{Stops, Read, Holds};
 ghost use Rattle.cs_tree.specs.Pattern.{paths, entries};
@@ -73,30 +74,31 @@ fn descend(k: u32, row: u32, par: &[u32], mark: &mut [u32], held: &[u32]) -> usi
     none
 }
 
-// The same for any row: one past k or listed already has no way of its own.
+// The same for any row of column k: one that is listed already has no way of its own.
 fn read_row(k: u32, row: u32, par: &[u32], mark: &mut [u32], held: &[u32]) -> usize
-    requires { ⌜ Walks k (now par) (now mark) × (length (now held) < 2 ^ 32) ⌝ }
+    requires { ⌜ Walks k (now par) (now mark) × (length (now held) < 2 ^ 32) × (row ≤ k) ⌝ }
     ensures { λ r. ⌜ ((older : List ℕ) → Marks k (now (mark .entry)) older → r ≤ length (now (held .entry))
         → Read k (now (par .entry)) row older (now (held .entry)) r (now (mark .exit))) ⌝ }
 {
-    if row > k {
-        return held.len();
-    }
     if mark[wide(row)] == k + 1 {
         return held.len();
     }
     descend(k, row, par, mark, held)
 }
 
-// Column k of U is what is held.
+// Column k of U is what is held. The rows rise, so that the first past k ends them.
 fn read_column(k: u32, rows: &[u32], par: &[u32], mark: &mut [u32], held: &[u32]) -> bool
-    requires { ⌜ Walks k (now par) (now mark) × Marks k (now mark) [] × (length (now held) < 2 ^ 32) ⌝ }
+    requires { ⌜ Walks k (now par) (now mark) × Marks k (now mark) [] × (length (now held) < 2 ^ 32) × (rises (now rows) ≡ true) ⌝ }
     ensures { λ r. ⌜ (r ≡ true → (now (held .entry) ≡ paths (now (par .entry)) k (now (rows .entry)) []) × Marks k (now (mark .exit)) (now (held .entry))) ⌝ }
 {
     let mut top = held.len();
     let mut q = 0;
     while q < rows.len() {
-        let next = read_row(k, rows[q], par, mark, &held[0..top]);
+        let row = rows[q];
+        if row > k {
+            break;
+        }
+        let next = read_row(k, row, par, mark, &held[0..top]);
         if next > top {
             return false;
         }

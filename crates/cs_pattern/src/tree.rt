@@ -1,6 +1,8 @@
 // The elimination tree, by climbs along the noted ancestors.
+ghost use mathlib.Core.Bool.{true};
 ghost use mathlib.Core.Path.{_≡_};
 ghost use lib.ListN.{length, replicate};
+ghost use Rattle.lists.specs.Order.{rises};
 ghost use Rattle.cs_matrix.specs.Matrix.{pattern, ValidPattern};
 ghost use Rattle.cs_tree.specs.Steps.{Climbs};
 ghost use Rattle.cs_tree.specs.Tree.{root, forest, climbs, tree};
@@ -20,14 +22,17 @@ fn roots(out: &mut [u32])
     }
 }
 
-// Column k's part in the tree.
+// Column k's part in the tree. The rows rise, so that the first that is not below k ends it.
 fn tree_column(k: u32, rows: &[u32], par: &mut [u32], anc: &mut [u32])
-    requires { ⌜ Climbs k (now par) (now anc) ⌝ }
+    requires { ⌜ Climbs k (now par) (now anc) × (rises (now rows) ≡ true) ⌝ }
     ensures { λ _. ⌜ forest (now (par .exit)) (now (anc .exit)) ≡ climbs k (now (rows .entry)) (forest (now (par .entry)) (now (anc .entry))) ⌝ }
 {
     let top = wide(k);
     for q in 0..rows.len() {
         let mut i = wide(rows[q]);
+        if i >= top {
+            return;
+        }
         'climb: while i < top {
             let a = anc[i];
             anc[i] = k;

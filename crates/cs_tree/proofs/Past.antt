@@ -9,12 +9,14 @@ use lib.ListN.{length, getD, drop}
 use lib.Seq.{getD-drop}
 use Rattle.lists.specs.Folds.{along}
 use Rattle.lists.specs.Order.{rises}
-use Rattle.lists.proofs.Folds.{Along}
+use Rattle.lists.proofs.Folds.{Along, along-end}
 use Rattle.lists.proofs.Ordering.{rises-apart}
 use Rattle.lists.proofs.Parts.{left-none}
 use Rattle.lists.proofs.Runs.{rises-drop}
-use Rattle.cs_tree.specs.Tree.{Forest, climb, climbs}
+use Rattle.cs_tree.specs.Tree.{Forest, forest, climb, climbs}
 use Rattle.cs_tree.specs.Pattern.{paths}
+use Rattle.cs_tree.proofs.Backward.{Backing}
+use Rattle.cs_tree.proofs.Climbing.{Rows}
 use Rattle.cs_tree.proofs.Steps.{climb-stop, path-over}
 use Rattle.cs_tree.proofs.Walking.{front, Listing}
 
@@ -57,3 +59,10 @@ climbs-all k {rows = rows} {s = s} {q = q} v r h = all v (climbs-past k (drop q 
 
 pub listing-past : {k : ℕ} {par rows mark : List ℕ} {count q : ℕ} → Listing k par rows mark count q → rises rows ≡ true → k < getD rows q 0 → Listing k par rows mark count (length rows)
 listing-past {k = k} {par = par} v r h = record { older = v .older; is = paths-all k par (v .is) r h; marks = v .marks; counts = v .counts }
+
+pub rows-past : {k : ℕ} {rows t₀ a₀ t a : List ℕ} {q : ℕ} → Rows k rows t₀ a₀ t a q → rises rows ≡ true → k ≤ getD rows q 0 → forest t a ≡ climbs k rows (forest t₀ a₀)
+unfolding climbs
+rows-past {k = k} {rows = rows} v r h = along-end (climb k k) rows (climbs-all k (v .is) r h) (omega arith)
+
+pub backing-past : {k : ℕ} {par rows held mark₀ mark : List ℕ} {top q : ℕ} → Backing k par rows held mark₀ mark top q → rises rows ≡ true → k < getD rows q 0 → Backing k par rows held mark₀ mark top (length rows)
+backing-past {k = k} {par = par} v r h = record { asks = v .asks; same = v .same; within = v .within; is = paths-all k par (v .is) r h; marks = v .marks }

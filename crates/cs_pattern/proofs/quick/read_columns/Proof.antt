@@ -2,7 +2,7 @@ use Rattle.lists.proofs.Parts.{length-part}
 use mathlib.Core.Bool.{true≢false}
 use Rattle.cs_tree.proofs.Backward.{Reading, reading-start, reading-turn, reading-done}
 use Rattle.cs_tree.proofs.Filling.{given-walks}
-use Rattle.cs_pattern.proofs.Columns.{inside, outside, as-many, here, part-is, columns-long}
+use Rattle.cs_pattern.proofs.Columns.{inside, outside, as-many, here, part-is, part-rises, columns-long}
 use Rattle.cs_pattern.specs.Columns.{columns}
 use Rattle.cs_matrix.specs.Matrix.{pattern}
 use borrow.Author.Tests.{not-false}
@@ -141,7 +141,7 @@ part-read-column-end-2 c = search needs
 
 -- src/quick.rt:138:13
 read-column-requires : tie.Need-read-column-requires Inv-loop μ-loop
-read-column-requires c κs = (given-walks (c .before .before .before .before .before .before .before .before .before .before .before .before .before .before .before .before .before .before .before .before .before .before .before .pre .1) (inside (c .before .before .before .before .before .before .before .before .before .before .before .before .before .before .before .before .before .before .before .before .before .before .before .pre .0) (c .before .before .before .before .before .before .before .before .before .before .before .before .before .loop-test .taken)) (c .before .before .before .before .before .before .before .before .before .before .before .before .before .before .loop .inv .m-long), c .before .before .before .before .before .before .before .before .before .before .before .before .before .before .loop .inv .fresh, omega (arith, length-part (c .before .before .before .before .before .before .before .wide3 .result) (c .before .before .before .before .before .wide4 .result) (c .before .before .before .before .before .before .before .before .before .before .before .before .before .before .before .before .before .before .before .before .before .before .before .args .ui .now) (c .before .before .before .if3 .left), c .before .before .before .before .before .wide4 .ensures .1))
+read-column-requires c κs = (given-walks (c .before .before .before .before .before .before .before .before .before .before .before .before .before .before .before .before .before .before .before .before .before .before .before .pre .1) (inside (c .before .before .before .before .before .before .before .before .before .before .before .before .before .before .before .before .before .before .before .before .before .before .before .pre .0) (c .before .before .before .before .before .before .before .before .before .before .before .before .before .loop-test .taken)) (c .before .before .before .before .before .before .before .before .before .before .before .before .before .before .loop .inv .m-long), c .before .before .before .before .before .before .before .before .before .before .before .before .before .before .loop .inv .fresh, omega (arith, length-part (c .before .before .before .before .before .before .before .wide3 .result) (c .before .before .before .before .before .wide4 .result) (c .before .before .before .before .before .before .before .before .before .before .before .before .before .before .before .before .before .before .before .before .before .before .before .args .ui .now) (c .before .before .before .if3 .left), c .before .before .before .before .before .wide4 .ensures .1), part-rises (c .before .before .before .before .before .before .before .before .before .before .before .before .before .before .before .before .before .before .before .before .before .before .before .pre .0) (c .before .before .before .before .before .before .before .before .before .before .before .before .before .loop-test .taken) (c .before .before .before .before .before .before .before .before .before .before .before .wide .ensures .0) (c .before .before .before .before .before .before .before .before .before .wide2 .ensures .0))
 
 -- src/quick.rt:139:13
 same-length-3 : tie.Need-same-length-3 Inv-loop μ-loop

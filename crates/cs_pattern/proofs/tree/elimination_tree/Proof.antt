@@ -1,4 +1,4 @@
-use Rattle.cs_pattern.proofs.Columns.{columns-fit, columns-long, here, part-is}
+use Rattle.cs_pattern.proofs.Columns.{columns-fit, columns-long, here, part-is, part-rises}
 use mathlib.Core.Path.{_∙_, sym}
 use Rattle.cs_tree.proofs.Growing.{Growing, growing-start, growing-asks, growing-turn, growing-done, par-long, anc-long}
 use Rattle.cs_pattern.specs.Columns.{columns}
@@ -82,7 +82,7 @@ part-tree-column-end c = (here (c .before .before .before .before .before .befor
 
 -- src/tree.rt:53:9
 tree-column-requires : tie.Need-tree-column-requires Inv-loop μ-loop
-tree-column-requires c κs = growing-asks (c .before .before .before .before .before .before .before .before .loop .inv) (rw (← columns-long (c .before .before .before .before .before .before .before .before .before .before .before .before .before .before .before .before .before .before .before .before .before .pre .0)) (c .before .before .before .before .before .before .before .loop-test .taken))
+tree-column-requires c κs = (growing-asks (c .before .before .before .before .before .before .before .before .loop .inv) (rw (← columns-long (c .before .before .before .before .before .before .before .before .before .before .before .before .before .before .before .before .before .before .before .before .before .pre .0)) (c .before .before .before .before .before .before .before .loop-test .taken)), part-rises (c .before .before .before .before .before .before .before .before .before .before .before .before .before .before .before .before .before .before .before .before .before .pre .0) (c .before .before .before .before .before .before .before .loop-test .taken) (c .before .before .before .before .before .wide .ensures .0) (c .before .before .before .wide2 .ensures .0))
 
 -- src/tree.rt:50:9
 add-k : tie.Need-add-k Inv-loop μ-loop
