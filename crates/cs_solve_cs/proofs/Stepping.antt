@@ -1,28 +1,31 @@
 -- The loops over the marked columns. Assumes nothing.
 use mathlib.Core.Path.{_≡_, refl, sym, ap, _∙_}
-use mathlib.Core.Bool.{true, false}
-use mathlib.Core.List.{List, [], _∷_, _++_, map}
+use mathlib.Core.Bool.{Bool, true, false}
+use mathlib.Core.List.{List, [], _∷_, _++_, map, List·Memᴰ, List·Memᴰ·head, List·Memᴰ·tail}
+use mathlib.Core.Logic.{⊎-elim}
 use Prim.Native.Nat.{ℕ, _+_, _≤_, _<_}
 use native.Mathlib.Omega.{arith}
-use lib.Ieee.{Float, nan}
+use lib.Ieee.{Float, nan, binary64, sub, mul, div}
 use lib.ListN.{length, getD, set, length-append, length-map, length-set}
-use lib.Seq.{set-out}
+use lib.Seq.{set-out, getD-set-other}
 use borrow.Author.Tests.{eq-eqb, ne-eqb}
 use Rattle.lists.specs.Calls.{onto}
 use Rattle.lists.specs.Choices.{chosen}
 use Rattle.lists.specs.Folds.{along}
 use Rattle.lists.specs.Parts.{part}
+use Rattle.lists.proofs.Bools.{le-or-lt}
 use Rattle.lists.proofs.Choices.{chosen-more, chosen-same}
 use Rattle.lists.proofs.Pairs.{Paired, paired-start, paired-turn}
 use Rattle.lists.proofs.Parts.{onto-more, onto-none, length-onto}
-use Rattle.cs_matrix.specs.Matrix.{matrix, valueAt}
-use Rattle.cs_solve.specs.Solve.{forwardAt, forwardColumn}
+use Rattle.lists.proofs.Positions.{over-keeps}
+use Rattle.cs_matrix.specs.Matrix.{Matrix, matrix, valueAt, Valid}
+use Rattle.cs_solve.specs.Solve.{lowerAt, forwardAt, forwardColumn}
 use Rattle.cs_solve.proofs.Columns.{Handed}
-use Rattle.cs_solve.proofs.Steps.{length-forwardColumn}
+use Rattle.cs_solve.proofs.Steps.{lower-set, lower-above, length-forwardColumn}
 use Rattle.cs_solve.proofs.Turns.{forward-step}
 use Rattle.cs_solve_cs.specs.SolveCs.{putAt}
 use Rattle.cs_solve_cs.specs.Steps.{marked, marks, Room}
-use Rattle.lists.proofs.Chosen.{along-more, map-more, chosen-grows, chosen-within}
+use Rattle.lists.proofs.Chosen.{along-more, map-more, chosen-grows, chosen-within, chosen-member}
 
 -- ---- a mark read
 module _ (w : List ℕ) (j : ℕ) where
@@ -47,7 +50,28 @@ module _ {rows : List ℕ} {vals x₀ x : List Float} {k : ℕ} (v : Putting row
   pub putting-out : length x ≤ r → Putting rows vals x₀ x (k + 1)
   putting-out l = record { long = v .long; rest = paired-turn putAt rows vals 0 nan (v .rest) g h (sym (set-out x r (getD vals k nan) l) ∙ (rw e)) }
 
--- ---- the forward steps
+-- ---- the forward steps: a column changes no value above its own
+module _ (j k : ℕ) (h : k < j) where
+  abbrev at-k : List Float → Float
+  at-k b = getD b k nan
+
+  lower-keeps : (x : Float) (i : ℕ) (v : Float) (b : List Float) → at-k (lowerAt j x i v b) ≡ at-k b
+  lower-keeps x i v b =
+      ⊎-elim
+      (λ (g : i ≤ j). sym (ap at-k (lower-above j x i v b g)))
+      (λ (g : j < i). sym (ap at-k (lower-set j x i v b g)) ∙ getD-set-other b i k (sub binary64 (getD b i nan) (mul binary64 x v)) nan (λ (e : k ≡ i). omega arith))
+      (le-or-lt i j)
+
+  forward-keeps : (d : Float) (rows : List ℕ) (vals b : List Float) → at-k (forwardAt j d rows vals b) ≡ at-k b
+  unfolding forwardAt
+  forward-keeps d rows vals b =
+      let x = div binary64 (getD b j nan) d in
+      over-keeps at-k (lowerAt j x) rows vals (λ i v c m. lower-keeps x i v c) (set b j x) ∙ getD-set-other b j k x nan (λ (e : k ≡ j). omega arith)
+
+  pub column-keeps : (a : Matrix) (b : List Float) → at-k (forwardColumn a j b) ≡ at-k b
+  unfolding forwardColumn
+  column-keeps a b = forward-keeps _ _ _ b
+
 pub record Forwarding (n : ℕ) (p i : List ℕ) (v : List Float) (w : List ℕ) (x₀ x : List Float) (j : ℕ) : Type 0 where
   pub within : j ≤ n
   pub long : length x ≡ length x₀
@@ -79,6 +103,14 @@ forwarding-end {n} {j = j} f h = let e : j ≡ n = omega (arith, f .within) in l
 -- ---- the result
 abbrev pub valuesOf : List Float → List ℕ → List Float
 valuesOf x l = map (λ (j : ℕ). getD x j nan) l
+
+-- what was gathered of the numbers below j stays where no value below j changes
+values-kept : (j : ℕ) (f : ℕ → Bool) (x y : List Float) → ((k : ℕ) → k < j → getD y k nan ≡ getD x k nan) → valuesOf y (chosen j f) ≡ valuesOf x (chosen j f)
+values-kept j f x y h = go (chosen j f) (λ k m. h k (chosen-member f j k m .below))
+  where
+    go : (l : List ℕ) → ((k : ℕ) → List·Memᴰ k l → getD y k nan ≡ getD x k nan) → valuesOf y l ≡ valuesOf x l
+    go [] h = refl
+    go (k ∷ l) h = rw (h k (List·Memᴰ·head refl), go l (λ q m. h q (List·Memᴰ·tail m)))
 
 pub record Gathering (n : ℕ) (w : List ℕ) (x : List Float) (xi₀ : List ℕ) (xv₀ : List Float) (xi : List ℕ) (xv : List Float) (at j : ℕ) : Type 0 where
   pub ask : Room n w x xi₀ xv₀
@@ -144,3 +176,54 @@ module _ {n : ℕ} {w : List ℕ} {x : List Float} {xi₀ : List ℕ} {xv₀ : L
   pub gathering-end : n ≤ j → (xi ≡ onto xi₀ (marks n w)) × (xv ≡ onto xv₀ (valuesOf x (marks n w)))
   unfolding marks
   gathering-end h = let e : j ≡ n = omega (arith, g .within) in let a = g .rows in let b = g .vals in (rw e at a, rw e at b)
+
+-- ---- both in one loop
+pub record Serving (n : ℕ) (p i : List ℕ) (v : List Float) (w : List ℕ) (x₀ : List Float) (xi₀ : List ℕ) (xv₀ : List Float) (x : List Float) (xi : List ℕ) (xv : List Float) (at j : ℕ) : Type 0 where
+  pub valid : Valid (matrix n n p i v)
+  pub steps : Forwarding n p i v w x₀ x j
+  pub out : Gathering n w x xi₀ xv₀ xi xv at j
+
+pub serving-start : {n : ℕ} {p i : List ℕ} {v : List Float} {w : List ℕ} {x : List Float} {xi : List ℕ} {xv : List Float} → Valid (matrix n n p i v) → Room n w x xi xv → Serving n p i v w x xi xv x xi xv 0 0
+serving-start {n} {p} {i} {v} {w} {x} a r = record { valid = a; steps = forwarding-start n p i v w x; out = gathering-start r }
+
+module _ {n : ℕ} {p i : List ℕ} {v : List Float} {w : List ℕ} {x₀ : List Float} {xi₀ : List ℕ} {xv₀ : List Float} {x : List Float} {xi : List ℕ} {xv : List Float} {at j : ℕ} (s : Serving n p i v w x₀ xi₀ xv₀ x xi xv at j) where
+  pub serving-end : n ≤ j → (xi ≡ onto xi₀ (marks n w)) × (xv ≡ onto xv₀ (valuesOf (along (forwardColumn (matrix n n p i v)) (marks n w) x₀) (marks n w)))
+  serving-end h = let g = gathering-end (s .out) h in (g .0, g .1 ∙ (rw (forwarding-end (s .steps) h)))
+
+  module _ (h : j < n) where
+    pub serving-off : getD w j 0 ≡ 0 → Serving n p i v w x₀ xi₀ xv₀ x xi xv at (j + 1)
+    serving-off t = record { valid = s .valid; steps = forwarding-off (s .steps) h t; out = gathering-off (s .out) h t }
+
+    module _ {b e : ℕ} {d : Float} {y : List Float} (c : Handed p i v j b e) (q : d ≡ valueAt j (part b e i) (part b e v)) (u : y ≡ forwardAt j d (part b e i) (part b e v) x) where
+      stepped : y ≡ forwardColumn (matrix n n p i v) j x
+      stepped = forward-step n n x c q u
+
+      -- what is gathered is gathered of the new values too
+      moved : Gathering n w y xi₀ xv₀ xi xv at j
+      moved =
+          let g = s .out in
+          let r = g .ask in
+          let f = values-kept j (marked w) x y (λ k l. ap (λ (z : List Float). getD z k nan) stepped ∙ column-keeps j k l (matrix n n p i v) x) in
+          record {
+            ask = record { small = r .small; w-long = r .w-long; x-long = omega (arith, r .x-long, ap length stepped, length-forwardColumn (matrix n n p i v) j x); in-i = r .in-i; in-v = r .in-v };
+            within = g .within;
+            count = g .count;
+            rows = g .rows;
+            vals = rw f (g .vals);
+          }
+
+      pub value-in : j < length y
+      value-in = omega (arith, moved .ask .x-long)
+
+      module _ (t : getD w j 0 ≡ 0 → ⊥) where
+        pub out-i : at < length xi
+        out-i = at-in-i moved h t
+
+        pub out-v : at < length xv
+        out-v = at-in-v moved h t
+
+        pub out-small : at < 65535
+        out-small = at-small moved h t
+
+        pub serving-on : Serving n p i v w x₀ xi₀ xv₀ y (set xi at j) (set xv at (getD y j nan)) (at + 1) (j + 1)
+        serving-on = record { valid = s .valid; steps = forwarding-on (s .steps) h t c q u; out = gathering-on moved h t }

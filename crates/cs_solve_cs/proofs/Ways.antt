@@ -130,10 +130,10 @@ module _ (n : ℕ) (p i : List ℕ) (v : List Float) (bi : List ℕ) (bv : List 
         unfolding later answer outputs
         at-10 k = let t = lacks .found k in rw (roomy, t .0) ((λ z. record { number = 10; column = t .1 z }), refl)
 
-        pub at-end : {x x1 x2 : List Float} {xi : List ℕ} {xv : List Float} → n ≤ q → x ≡ replicate n none → x1 ≡ over putAt bi bv x → x2 ≡ along (forwardColumn a) (marks n w) x1
-            → xi ≡ onto (old .i) (marks n w) → xv ≡ onto (old .v) (valuesOf x2 (marks n w)) → Served (record { number = 0; column = 0 }) (stored xi xv)
+        pub at-end : {x x1 : List Float} {xi : List ℕ} {xv : List Float} → n ≤ q → x ≡ replicate n none → x1 ≡ over putAt bi bv x
+            → xi ≡ onto (old .i) (marks n w) → xv ≡ onto (old .v) (valuesOf (along (forwardColumn a) (marks n w) x1) (marks n w)) → Served (record { number = 0; column = 0 }) (stored xi xv)
         unfolding later answer outputs written solution steps right
-        at-end k z s t r o = rw (roomy, lacks .none k) (refl, both-are (r ∙ (rw u)) (o ∙ (rw (t, s, z, u))))
+        at-end k z s r o = rw (roomy, lacks .none k) (refl, both-are (r ∙ (rw u)) (o ∙ (rw (s, z, u))))
           where
             both-are : {i i' : List ℕ} {v v' : List Float} → i ≡ i' → v ≡ v' → stored i v ≡ stored i' v'
             both-are r o = λ k. stored (r k) (o k)

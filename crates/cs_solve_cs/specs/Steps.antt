@@ -33,7 +33,7 @@ pub record Ready (n : ℕ) (p i : List ℕ) (v : List Float) (bi : List ℕ) (bv
   pub clean : w ≡ replicate n 0
   pub zeros : x ≡ replicate n none
 
--- what `gather` asks: marks and values, and room for the marked places
+-- what `forward` asks besides: marks and values, and room for the marked places
 pub record Room (n : ℕ) (w : List ℕ) (x : List Float) (xi : List ℕ) (xv : List Float) : Type 0 where
   pub small : n ≤ 65535
   pub w-long : n ≤ length w

@@ -9,7 +9,6 @@ ghost use Rattle.cs_solve_cs.specs.SolveCs.{judgedCs, stored, written, s
 ghost use Rattle.cs_solve_cs.specs.Steps.{Ready};
 use crate::reach::reach;
 use crate::steps::forward;
-use crate::steps::gather;
 use crate::steps::put;
 use cs_matrix::check::check;
 use cs_matrix::check::check_vector;
@@ -74,8 +73,7 @@ fn serve(
         };
     }
     put(bi, bv, x);
-    forward(n, p, i, v, w, x);
-    gather(n, w, x, xi, xv);
+    forward(n, p, i, v, w, x, xi, xv);
     Solved {
         number: 0,
         column: 0,

@@ -1,9 +1,8 @@
-// The steps over the marked columns: the values, the forward steps, the result.
+// The right side's values, and the forward steps over the marked columns, which write the result.
 ghost use mathlib.Core.Path.{_≡_};
-ghost use Prim.Native.Nat.{_≤_};
 ghost use mathlib.Core.List.{map};
 ghost use lib.Ieee.{nan};
-ghost use lib.ListN.{length, getD};
+ghost use lib.ListN.{getD};
 ghost use Rattle.lists.specs.Calls.{onto};
 ghost use Rattle.lists.specs.Folds.{along, over};
 ghost use Rattle.cs_matrix.specs.Matrix.{matrix, Valid};
@@ -28,32 +27,32 @@ pub fn put(rows: &[u32], vals: &[f64], x: &mut [f64])
     }
 }
 
-// The forward steps over the marked columns, rising.
-pub fn forward(n: usize, p: &[u32], i: &[u32], v: &[f64], w: &[u32], x: &mut [f64])
-    requires { ⌜ Valid (matrix n n (now p) (now i) (now v)) × (n ≤ length (now w)) ⌝ }
-    ensures { λ _. ⌜ now (x .exit) ≡ along (forwardColumn (matrix n n (now (p .entry)) (now (i .entry)) (now (v .entry)))) (marks n (now (w .entry))) (now (x .entry)) ⌝ }
+// The forward steps over the marked columns, rising. No later column changes the value of this one, so that each is written at once.
+pub fn forward(
+    n: usize,
+    p: &[u32],
+    i: &[u32],
+    v: &[f64],
+    w: &[u32],
+    x: &mut [f64],
+    xi: &mut [u32],
+    xv: &mut [f64],
+)
+    requires { ⌜ Valid (matrix n n (now p) (now i) (now v)) × Room n (now w) (now x) (now xi) (now xv) ⌝ }
+    ensures { λ _. ⌜ (let l = marks n (now (w .entry)) in
+        let y = along (forwardColumn (matrix n n (now (p .entry)) (now (i .entry)) (now (v .entry)))) l (now (x .entry)) in
+        (now (xi .exit) ≡ onto (now (xi .entry)) l) × (now (xv .exit) ≡ onto (now (xv .entry)) (map (λ j. getD y j nan) l))) ⌝ }
 {
+    let mut at = 0;
     for j in 0..n {
         if w[j] != 0 {
             let a = wide(p[j]);
             let e = wide(p[j + 1]);
             let d = value_at(j, &i[a..e], &v[a..e]);
             forward_at(j, d, &i[a..e], &v[a..e], x);
-        }
-    }
-}
-
-// The marked places and their values, into outputs that have room.
-pub fn gather(n: usize, w: &[u32], x: &[f64], xi: &mut [u32], xv: &mut [f64])
-    requires { ⌜ Room n (now w) (now x) (now xi) (now xv) ⌝ }
-    ensures { λ _. ⌜ (let l = marks n (now (w .entry)) in let x = now (x .entry) in
-        (now (xi .exit) ≡ onto (now (xi .entry)) l) × (now (xv .exit) ≡ onto (now (xv .entry)) (map (λ j. getD x j nan) l))) ⌝ }
-{
-    let mut at = 0;
-    for row in 0..n {
-        if w[row] != 0 {
-            xi[at] = row as u32;
-            xv[at] = x[row];
+            let value = x[j];
+            xi[at] = j as u32;
+            xv[at] = value;
             at += 1;
         }
     }

@@ -3,25 +3,25 @@ use mathlib.Core.Logic.{⊎-elim}
 use Prim.Native.Nat.{_-_}
 use native.Mathlib.Omega.{arith}
 use borrow.Author.Needs.{needs}
-use Rattle.cs_solve_cs.proofs.Stepping.{Forwarding, forwarding-start, forwarding-on, forwarding-off, forwarding-end}
-use Rattle.cs_solve.proofs.Columns.{handed}
+use Rattle.cs_solve_cs.proofs.Stepping.{i-long, v-long, Serving, serving-start, serving-on, serving-off, serving-end, value-in, out-i, out-v, out-small}
+use Rattle.cs_solve.proofs.Columns.{handed, j-small}
 use Rattle.cs_solve_cs.proofs.steps.forward.Statement.{statement}
 use Rattle.cs_solve_cs.proofs.steps.forward.Tie as tie
 
 abbrev Inv-loop : tie.InvT-loop
-Inv-loop n p i v w x₀ j₀ x j = Forwarding n p i v w x₀ x j
+Inv-loop n p i v w x₀ xi₀ xv₀ at₀ j₀ x xi xv at j = Serving n p i v w x₀ xi₀ xv₀ x xi xv at j
 
 abbrev μ-loop : tie.MeasureT-loop
-μ-loop n p i v w x₀ j₀ x j = n - j
+μ-loop n p i v w x₀ xi₀ xv₀ at₀ j₀ x xi xv at j = n - j
 
 loop-holds : tie.Need-loop-holds Inv-loop μ-loop
-loop-holds c = forwarding-start _ _ _ _ _ _
+loop-holds c = serving-start (c .before .before .before .before .before .before .before .pre .0) (c .before .before .before .before .before .before .before .pre .1)
 
 mul-if1 : tie.Need-mul-if1 Inv-loop μ-loop
-mul-if1 c = search needs
+mul-if1 c = omega (arith, j-small (c .before .loop .inv .valid) (c .loop-test .taken))
 
 shared-slice-read-if1 : tie.Need-shared-slice-read-if1 Inv-loop μ-loop
-shared-slice-read-if1 c = omega (arith, c .before .before .before .before .before .before .before .before .pre .1, c .before .loop-test .taken)
+shared-slice-read-if1 c = omega (arith, c .before .before .loop .inv .out .ask .w-long, c .before .loop-test .taken)
 
 mul-wide : tie.Need-mul-wide Inv-loop μ-loop
 mul-wide c = search needs
@@ -48,25 +48,25 @@ mul-value-at : tie.Need-mul-value-at Inv-loop μ-loop
 mul-value-at c = search needs
 
 sub-value-at : tie.Need-sub-value-at Inv-loop μ-loop
-sub-value-at c = (handed (c .before .before .before .before .before .before .before .before .before .before .before .before .before .pre .0) (c .before .before .before .before .before .before .loop-test .taken) (c .before .before .wide .ensures .0) (c .wide2 .ensures .0)) .order
+sub-value-at c = (handed (c .before .before .before .before .before .before .before .loop .inv .valid) (c .before .before .before .before .before .before .loop-test .taken) (c .before .before .wide .ensures .0) (c .wide2 .ensures .0)) .order
 
 part-value-at-start : tie.Need-part-value-at-start Inv-loop μ-loop
-part-value-at-start c = (handed (c .before .before .before .before .before .before .before .before .before .before .before .before .before .pre .0) (c .before .before .before .before .before .before .loop-test .taken) (c .before .before .wide .ensures .0) (c .wide2 .ensures .0)) .order
+part-value-at-start c = (handed (c .before .before .before .before .before .before .before .loop .inv .valid) (c .before .before .before .before .before .before .loop-test .taken) (c .before .before .wide .ensures .0) (c .wide2 .ensures .0)) .order
 
 part-value-at-end : tie.Need-part-value-at-end Inv-loop μ-loop
-part-value-at-end c = (handed (c .before .before .before .before .before .before .before .before .before .before .before .before .before .pre .0) (c .before .before .before .before .before .before .loop-test .taken) (c .before .before .wide .ensures .0) (c .wide2 .ensures .0)) .inside
+part-value-at-end c = (handed (c .before .before .before .before .before .before .before .loop .inv .valid) (c .before .before .before .before .before .before .loop-test .taken) (c .before .before .wide .ensures .0) (c .wide2 .ensures .0)) .inside
 
 mul-value-at-2 : tie.Need-mul-value-at-2 Inv-loop μ-loop
 mul-value-at-2 c = search needs
 
 sub-value-at-2 : tie.Need-sub-value-at-2 Inv-loop μ-loop
-sub-value-at-2 c = (handed (c .before .before .before .before .before .before .before .before .before .before .before .before .before .before .pre .0) (c .before .before .before .before .before .before .before .loop-test .taken) (c .before .before .before .wide .ensures .0) (c .before .wide2 .ensures .0)) .order
+sub-value-at-2 c = (handed (c .before .before .before .before .before .before .before .before .loop .inv .valid) (c .before .before .before .before .before .before .before .loop-test .taken) (c .before .before .before .wide .ensures .0) (c .before .wide2 .ensures .0)) .order
 
 part-value-at-start-2 : tie.Need-part-value-at-start-2 Inv-loop μ-loop
-part-value-at-start-2 c = (handed (c .before .before .before .before .before .before .before .before .before .before .before .before .before .before .pre .0) (c .before .before .before .before .before .before .before .loop-test .taken) (c .before .before .before .wide .ensures .0) (c .before .wide2 .ensures .0)) .order
+part-value-at-start-2 c = (handed (c .before .before .before .before .before .before .before .before .loop .inv .valid) (c .before .before .before .before .before .before .before .loop-test .taken) (c .before .before .before .wide .ensures .0) (c .before .wide2 .ensures .0)) .order
 
 part-value-at-end-2 : tie.Need-part-value-at-end-2 Inv-loop μ-loop
-part-value-at-end-2 c = (handed (c .before .before .before .before .before .before .before .before .before .before .before .before .before .before .pre .0) (c .before .before .before .before .before .before .before .loop-test .taken) (c .before .before .before .wide .ensures .0) (c .before .wide2 .ensures .0)) .inside-v
+part-value-at-end-2 c = (handed (c .before .before .before .before .before .before .before .before .loop .inv .valid) (c .before .before .before .before .before .before .before .loop-test .taken) (c .before .before .before .wide .ensures .0) (c .before .wide2 .ensures .0)) .inside-v
 
 value-at-requires : tie.Need-value-at-requires Inv-loop μ-loop
 value-at-requires c κs = search needs
@@ -75,28 +75,52 @@ mul-forward-at : tie.Need-mul-forward-at Inv-loop μ-loop
 mul-forward-at c = search needs
 
 sub-forward-at : tie.Need-sub-forward-at Inv-loop μ-loop
-sub-forward-at c = (handed (c .before .before .before .before .before .before .before .before .before .before .before .before .before .before .before .before .pre .0) (c .before .before .before .before .before .before .before .before .before .loop-test .taken) (c .before .before .before .before .before .wide .ensures .0) (c .before .before .before .wide2 .ensures .0)) .order
+sub-forward-at c = (handed (c .before .before .before .before .before .before .before .before .before .before .loop .inv .valid) (c .before .before .before .before .before .before .before .before .before .loop-test .taken) (c .before .before .before .before .before .wide .ensures .0) (c .before .before .before .wide2 .ensures .0)) .order
 
 part-forward-at-start : tie.Need-part-forward-at-start Inv-loop μ-loop
-part-forward-at-start c = (handed (c .before .before .before .before .before .before .before .before .before .before .before .before .before .before .before .before .pre .0) (c .before .before .before .before .before .before .before .before .before .loop-test .taken) (c .before .before .before .before .before .wide .ensures .0) (c .before .before .before .wide2 .ensures .0)) .order
+part-forward-at-start c = (handed (c .before .before .before .before .before .before .before .before .before .before .loop .inv .valid) (c .before .before .before .before .before .before .before .before .before .loop-test .taken) (c .before .before .before .before .before .wide .ensures .0) (c .before .before .before .wide2 .ensures .0)) .order
 
 part-forward-at-end : tie.Need-part-forward-at-end Inv-loop μ-loop
-part-forward-at-end c = (handed (c .before .before .before .before .before .before .before .before .before .before .before .before .before .before .before .before .pre .0) (c .before .before .before .before .before .before .before .before .before .loop-test .taken) (c .before .before .before .before .before .wide .ensures .0) (c .before .before .before .wide2 .ensures .0)) .inside
+part-forward-at-end c = (handed (c .before .before .before .before .before .before .before .before .before .before .loop .inv .valid) (c .before .before .before .before .before .before .before .before .before .loop-test .taken) (c .before .before .before .before .before .wide .ensures .0) (c .before .before .before .wide2 .ensures .0)) .inside
 
 mul-forward-at-2 : tie.Need-mul-forward-at-2 Inv-loop μ-loop
 mul-forward-at-2 c = search needs
 
 sub-forward-at-2 : tie.Need-sub-forward-at-2 Inv-loop μ-loop
-sub-forward-at-2 c = (handed (c .before .before .before .before .before .before .before .before .before .before .before .before .before .before .before .before .before .pre .0) (c .before .before .before .before .before .before .before .before .before .before .loop-test .taken) (c .before .before .before .before .before .before .wide .ensures .0) (c .before .before .before .before .wide2 .ensures .0)) .order
+sub-forward-at-2 c = (handed (c .before .before .before .before .before .before .before .before .before .before .before .loop .inv .valid) (c .before .before .before .before .before .before .before .before .before .before .loop-test .taken) (c .before .before .before .before .before .before .wide .ensures .0) (c .before .before .before .before .wide2 .ensures .0)) .order
 
 part-forward-at-start-2 : tie.Need-part-forward-at-start-2 Inv-loop μ-loop
-part-forward-at-start-2 c = (handed (c .before .before .before .before .before .before .before .before .before .before .before .before .before .before .before .before .before .pre .0) (c .before .before .before .before .before .before .before .before .before .before .loop-test .taken) (c .before .before .before .before .before .before .wide .ensures .0) (c .before .before .before .before .wide2 .ensures .0)) .order
+part-forward-at-start-2 c = (handed (c .before .before .before .before .before .before .before .before .before .before .before .loop .inv .valid) (c .before .before .before .before .before .before .before .before .before .before .loop-test .taken) (c .before .before .before .before .before .before .wide .ensures .0) (c .before .before .before .before .wide2 .ensures .0)) .order
 
 part-forward-at-end-2 : tie.Need-part-forward-at-end-2 Inv-loop μ-loop
-part-forward-at-end-2 c = (handed (c .before .before .before .before .before .before .before .before .before .before .before .before .before .before .before .before .before .pre .0) (c .before .before .before .before .before .before .before .before .before .before .loop-test .taken) (c .before .before .before .before .before .before .wide .ensures .0) (c .before .before .before .before .wide2 .ensures .0)) .inside-v
+part-forward-at-end-2 c = (handed (c .before .before .before .before .before .before .before .before .before .before .before .loop .inv .valid) (c .before .before .before .before .before .before .before .before .before .before .loop-test .taken) (c .before .before .before .before .before .before .wide .ensures .0) (c .before .before .before .before .wide2 .ensures .0)) .inside-v
 
 forward-at-requires : tie.Need-forward-at-requires Inv-loop μ-loop
 forward-at-requires c κs = search needs
+
+mul-value : tie.Need-mul-value Inv-loop μ-loop
+mul-value c = omega (arith, j-small (c .before .before .before .before .before .before .before .before .before .before .before .before .before .before .before .before .loop .inv .valid) (c .before .before .before .before .before .before .before .before .before .before .before .before .before .before .before .loop-test .taken))
+
+slice-read-value : tie.Need-slice-read-value Inv-loop μ-loop
+slice-read-value c = value-in (c .before .before .before .before .before .before .before .before .before .before .before .before .before .before .before .before .before .loop .inv) (c .before .before .before .before .before .before .before .before .before .before .before .before .before .before .before .before .loop-test .taken) (handed (c .before .before .before .before .before .before .before .before .before .before .before .before .before .before .before .before .before .loop .inv .valid) (c .before .before .before .before .before .before .before .before .before .before .before .before .before .before .before .before .loop-test .taken) (c .before .before .before .before .before .before .before .before .before .before .before .before .wide .ensures .0) (c .before .before .before .before .before .before .before .before .before .before .wide2 .ensures .0)) (c .before .before .before .before .before .before .before .value-at .ensures) (c .before .before .before .forward-at .ensures)
+
+cast-xi : tie.Need-cast-xi Inv-loop μ-loop
+cast-xi c = omega (arith, j-small (c .before .before .before .before .before .before .before .before .before .before .before .before .before .before .before .before .before .loop .inv .valid) (c .before .before .before .before .before .before .before .before .before .before .before .before .before .before .before .before .loop-test .taken))
+
+mul-xi : tie.Need-mul-xi Inv-loop μ-loop
+mul-xi c = omega (arith, out-small (c .before .before .before .before .before .before .before .before .before .before .before .before .before .before .before .before .before .loop .inv) (c .before .before .before .before .before .before .before .before .before .before .before .before .before .before .before .before .loop-test .taken) (handed (c .before .before .before .before .before .before .before .before .before .before .before .before .before .before .before .before .before .loop .inv .valid) (c .before .before .before .before .before .before .before .before .before .before .before .before .before .before .before .before .loop-test .taken) (c .before .before .before .before .before .before .before .before .before .before .before .before .wide .ensures .0) (c .before .before .before .before .before .before .before .before .before .before .wide2 .ensures .0)) (c .before .before .before .before .before .before .before .value-at .ensures) (c .before .before .before .forward-at .ensures) (c .before .before .before .before .before .before .before .before .before .before .before .before .before .before .if1 .taken))
+
+slice-write-xi : tie.Need-slice-write-xi Inv-loop μ-loop
+slice-write-xi c = out-i (c .before .before .before .before .before .before .before .before .before .before .before .before .before .before .before .before .before .loop .inv) (c .before .before .before .before .before .before .before .before .before .before .before .before .before .before .before .before .loop-test .taken) (handed (c .before .before .before .before .before .before .before .before .before .before .before .before .before .before .before .before .before .loop .inv .valid) (c .before .before .before .before .before .before .before .before .before .before .before .before .before .before .before .before .loop-test .taken) (c .before .before .before .before .before .before .before .before .before .before .before .before .wide .ensures .0) (c .before .before .before .before .before .before .before .before .before .before .wide2 .ensures .0)) (c .before .before .before .before .before .before .before .value-at .ensures) (c .before .before .before .forward-at .ensures) (c .before .before .before .before .before .before .before .before .before .before .before .before .before .before .if1 .taken)
+
+mul-xv : tie.Need-mul-xv Inv-loop μ-loop
+mul-xv c = omega (arith, out-small (c .before .before .before .before .before .before .before .before .before .before .before .before .before .before .before .before .before .loop .inv) (c .before .before .before .before .before .before .before .before .before .before .before .before .before .before .before .before .loop-test .taken) (handed (c .before .before .before .before .before .before .before .before .before .before .before .before .before .before .before .before .before .loop .inv .valid) (c .before .before .before .before .before .before .before .before .before .before .before .before .before .before .before .before .loop-test .taken) (c .before .before .before .before .before .before .before .before .before .before .before .before .wide .ensures .0) (c .before .before .before .before .before .before .before .before .before .before .wide2 .ensures .0)) (c .before .before .before .before .before .before .before .value-at .ensures) (c .before .before .before .forward-at .ensures) (c .before .before .before .before .before .before .before .before .before .before .before .before .before .before .if1 .taken))
+
+slice-write-xv : tie.Need-slice-write-xv Inv-loop μ-loop
+slice-write-xv c = out-v (c .before .before .before .before .before .before .before .before .before .before .before .before .before .before .before .before .before .loop .inv) (c .before .before .before .before .before .before .before .before .before .before .before .before .before .before .before .before .loop-test .taken) (handed (c .before .before .before .before .before .before .before .before .before .before .before .before .before .before .before .before .before .loop .inv .valid) (c .before .before .before .before .before .before .before .before .before .before .before .before .before .before .before .before .loop-test .taken) (c .before .before .before .before .before .before .before .before .before .before .before .before .wide .ensures .0) (c .before .before .before .before .before .before .before .before .before .before .wide2 .ensures .0)) (c .before .before .before .before .before .before .before .value-at .ensures) (c .before .before .before .forward-at .ensures) (c .before .before .before .before .before .before .before .before .before .before .before .before .before .before .if1 .taken)
+
+add-at : tie.Need-add-at Inv-loop μ-loop
+add-at c = let h = out-small (c .before .before .before .before .before .before .before .before .before .before .before .before .before .before .before .before .before .loop .inv) (c .before .before .before .before .before .before .before .before .before .before .before .before .before .before .before .before .loop-test .taken) (handed (c .before .before .before .before .before .before .before .before .before .before .before .before .before .before .before .before .before .loop .inv .valid) (c .before .before .before .before .before .before .before .before .before .before .before .before .before .before .before .before .loop-test .taken) (c .before .before .before .before .before .before .before .before .before .before .before .before .wide .ensures .0) (c .before .before .before .before .before .before .before .before .before .before .wide2 .ensures .0)) (c .before .before .before .before .before .before .before .value-at .ensures) (c .before .before .before .forward-at .ensures) (c .before .before .before .before .before .before .before .before .before .before .before .before .before .before .if1 .taken) in record { fits = omega arith }
 
 add-j : tie.Need-add-j Inv-loop μ-loop
 add-j c = search needs
@@ -105,13 +129,25 @@ loop-less : tie.Need-loop-less Inv-loop μ-loop
 loop-less c = omega (arith, c .before .before .loop-test .taken)
 
 loop-again : tie.Need-loop-again Inv-loop μ-loop
-loop-again c = let f = c .before .before .before .loop .inv in let h = c .before .before .loop-test .taken in ⊎-elim (λ t. rw (t .14) (forwarding-on f h (t .0 .taken) (handed (c .before .before .before .before .before .before .before .before .before .pre .0) h (t .2 .ensures .0) (t .4 .ensures .0)) (t .7 .ensures) (t .11 .ensures))) (λ t. rw (t .1) (forwarding-off f h (t .0 .left))) (c .if1 .came)
+loop-again c =
+    let s = c .before .before .before .loop .inv in
+    let h = c .before .before .loop-test .taken in
+    ⊎-elim
+    (λ t. rw (t .15, t .16, t .17, t .18) (serving-on s h (handed (s .valid) h (t .2 .ensures .0) (t .4 .ensures .0)) (t .7 .ensures) (t .11 .ensures) (t .0 .taken)))
+    (λ t. rw (t .1, t .2, t .3, t .4) (serving-off s h (t .0 .left)))
+    (c .if1 .came)
 
 same-length : tie.Need-same-length Inv-loop μ-loop
-same-length c = c .before .loop .inv .long
+same-length c = c .before .loop .inv .steps .long
+
+same-length-2 : tie.Need-same-length-2 Inv-loop μ-loop
+same-length-2 c = i-long (c .before .loop .inv .out)
+
+same-length-3 : tie.Need-same-length-3 Inv-loop μ-loop
+same-length-3 c = v-long (c .before .loop .inv .out)
 
 returns : tie.Need-returns Inv-loop μ-loop
-returns c = forwarding-end (c .before .loop .inv) (c .loop-test .left)
+returns c = serving-end (c .before .loop .inv) (c .loop-test .left)
 
 pub forward-spec : {M : Type 1} → statement M
 forward-spec =
@@ -147,8 +183,18 @@ forward-spec =
     part-forward-at-start-2
     part-forward-at-end-2
     forward-at-requires
+    mul-value
+    slice-read-value
+    cast-xi
+    mul-xi
+    slice-write-xi
+    mul-xv
+    slice-write-xv
+    add-at
     add-j
     loop-less
     loop-again
     same-length
+    same-length-2
+    same-length-3
     returns)
