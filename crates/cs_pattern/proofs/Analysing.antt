@@ -1,9 +1,9 @@
 -- What `analyse` answers and leaves, at each of its ways out. Assumes nothing.
 use mathlib.Core.Path.{_≡_, refl, sym, ap, _∙_}
 use mathlib.Core.Bool.{Bool, true, false, cond, _||_}
-use mathlib.Core.List.{List, [], _∷_, _++_, append-assoc, flatten, List·Memᴰ}
+use mathlib.Core.List.{List, [], _∷_, _++_, append-assoc, flatten}
 use mathlib.Core.Logic.{⊎-elim}
-use Prim.Native.Nat.{ℕ, _+_, _-_, _≤_, _<_, min}
+use Prim.Native.Nat.{ℕ, _+_, _-_, _≤_, _<_, _^_, min}
 use native.Mathlib.Omega.{arith}
 use lib.Dec.{ltb, eqb}
 use lib.Ieee.{Float}
@@ -12,27 +12,29 @@ use borrow.Author.Tests.{lt-ltb, le-ltb, ltb-false}
 use Rattle.lists.specs.Calls.{lowest, onto, none, cleared, Scratch, scratch, wiped, narrow, Lent, lent, leaves}
 use Rattle.lists.specs.Parts.{part, placed}
 use Rattle.lists.specs.Keeping.{Kept}
+use Rattle.lists.specs.Sums.{sums}
 use Rattle.lists.proofs.Bools.{or-false, le-or-lt}
 use Rattle.lists.proofs.Calls.{first, then, early, late, done, wiped-each}
-use Rattle.lists.proofs.Clearing.{length-cleared, cleared-front, cleared-again}
+use Rattle.lists.proofs.Clearing.{length-cleared, cleared-again}
 use Rattle.lists.proofs.Laying.{part-onto, part-long}
-use Rattle.lists.proofs.Parts.{length-onto, getD-onto-front}
+use Rattle.lists.proofs.Parts.{length-part, length-placed, getD-part, length-onto, getD-onto-front, getD-onto-rest}
+use Rattle.lists.proofs.Places.{placed-after}
 use Rattle.cs_matrix.specs.Matrix.{Pattern, pattern, needed, ValidPattern, judgedSquare}
-use Rattle.cs_tree.specs.Pattern.{Analysis, analysis, analysed, upper, lower, transposed, starts, entries}
-use Rattle.cs_tree.specs.Steps.{Given, Zeros, lengths, Whole}
+use Rattle.cs_tree.specs.Pattern.{Analysis, analysis, analysed, upper, lower, starts, entries}
+use Rattle.cs_tree.specs.Steps.{Given, Zeros, lengths}
+use Rattle.cs_tree.specs.Falling.{Ending, Ample}
 use Rattle.cs_tree.specs.Tree.{tree}
 use Rattle.cs_tree.proofs.Count.{length-starts, entries-lower}
 use Rattle.lists.proofs.Keeping.{kept-then, kept-wider, kept-cleared, kept-onto, kept-placed, kept-clears}
-use Rattle.cs_tree.proofs.Laid.{length-laid}
-use Rattle.cs_tree.proofs.Laws.{fill-upper}
-use Rattle.cs_tree.proofs.Lowering.{pointed-onto}
-use Rattle.cs_tree.proofs.Promises.{promised, filled, length-lower}
+use Rattle.cs_tree.proofs.Laid.{length-laid, start-at}
+use Rattle.cs_tree.proofs.Lowering.{fronts, sums-a, sums-b}
+use Rattle.cs_tree.proofs.Promises.{length-lower}
 use Rattle.cs_pattern.specs.Analyse.{short, written, number}
 use Rattle.cs_pattern.specs.Columns.{columns}
 use Rattle.cs_pattern.specs.Promise.{Analysed}
-use Rattle.cs_pattern.specs.Steps.{Begun, Ready}
+use Rattle.cs_pattern.specs.Steps.{Outlined, Ready}
 use Rattle.cs_pattern.proofs.Columns.{columns-fit, columns-long, given}
-use Rattle.cs_pattern.proofs.Filled.{tree-size, upper-size, zeros-front, lengths-there}
+use Rattle.cs_pattern.proofs.Filled.{tree-size, upper-size, zeros-front, counts-there}
 use Rattle.cs_pattern.proofs.Promising.{analysed-holds}
 use Rattle.cs_matrix.proofs.Squaring.{judged6, early-6, Prepared, unprepared}
 
@@ -65,57 +67,86 @@ module _ {n t : ℕ} {p i : List ℕ} (v : ValidPattern (pattern n n p i)) {w1 w
   abbrev C : List (List ℕ)
   C = columns (pattern n n p i)
 
-  pub fill-upper-asks : {w : List ℕ} → w ≡ cleared 0 n w2
-      → ValidPattern (pattern n n p i) × Given C (part 0 n w1) × (length (part 0 n w) ≡ n) × Zeros (part 0 n w)
-      × (take (n + 1) w3 ≡ lengths (upper C) ++ (0 ∷ [])) × (n + 1 ≤ length w3) × (n + 1 ≤ length (out .up)) × (entries (upper C) ≤ 4194304) × (entries (upper C) ≤ length (out .ui))
-  fill-upper-asks {w = w} e = (
-    v,
-    given v (r .tree-is),
-    part-long n w (rw (e, length-cleared 0 n w2) (r .w2-long)),
-    zeros-front n w2 (r .w2-long) e,
-    r .lengths-are,
-    r .w3-long,
-    r .up-room,
-    omega (arith, r .size, r .few),
-    omega (arith, r .size, r .ui-room),
-  )
+  abbrev L : List (List ℕ)
+  L = lower C
 
-  below : (k x : ℕ) → List·Memᴰ x (getD (upper C) k []) → x < n
-  below k x m = omega (arith, fill-upper C (filled C (columns-fit v) m), columns-long v)
+  many : n + 1 ≡ length L + 1
+  many = omega (arith, length-lower C (columns-fit v), columns-long v)
 
-  whole : {up ui : List ℕ} → up ≡ onto (out .up) (starts 0 (upper C)) → ui ≡ onto (out .ui) (flatten (upper C)) → Whole n t up ui
-  whole e f =
+  small : entries L < 2 ^ 32
+  small = omega (arith, entries-lower C (columns-fit v), r .size, r .few)
+
+  -- what is summed up: the counts are where each column of L starts, and so are the pointers
+  module _ {a : List ℕ} (x : a ≡ onto (part 0 (n + 1) w3) (sums 0 (fronts (n + 1) w3 (out .lp)))) where
+    next-is : placed 0 (n + 1) w3 a ≡ onto w3 (starts 0 L)
+    next-is = sums-a L (n + 1) w3 (out .lp) many (r .w3-long) (r .lp-room) (r .lengths-are) small x
+
+    starts-size : length (starts 0 L) ≡ n + 1
+    starts-size = omega (arith, length-starts 0 L, many)
+
+    pub next-long : length (placed 0 (n + 1) w3 a) ≡ length w3
+    next-long = rw next-is (length-onto w3 (starts 0 L) (omega (arith, starts-size, r .w3-long)))
+
+    pub next-end : n + 1 ≤ length (placed 0 (n + 1) w3 a)
+    next-end = rw next-long (r .w3-long)
+
+    next-part : length (part 1 (n + 1) (placed 0 (n + 1) w3 a)) ≡ n
+    next-part = length-part 1 (n + 1) (placed 0 (n + 1) w3 a) next-end ∙ (let z : n + 1 - 1 ≡ n = omega arith in z)
+
+    ending : Ending L (part 1 (n + 1) (placed 0 (n + 1) w3 a))
+    ending =
+        record {
+          long = omega (arith, next-part, many);
+          at =
+              λ j l.
+              let e : 1 + j ≡ j + 1 = omega arith in
+              getD-part 1 (n + 1) (placed 0 (n + 1) w3 a) j 0 (omega (arith, many)) ∙ ap (λ (d : List ℕ). getD d (1 + j) 0) next-is ∙ ap (λ (q : ℕ). getD (onto w3 (starts 0 L)) q 0) e
+              ∙ getD-onto-front w3 (starts 0 L) 0 (j + 1) (omega (arith, starts-size, many)) ∙ start-at L (j + 1) (omega arith);
+        }
+
+    pub fill-columns-asks : {w : List ℕ} → w ≡ cleared 0 n w2
+        → ValidPattern (pattern n n p i) × Given C (part 0 n w1) × (length (part 0 n w) ≡ n) × Zeros (part 0 n w) × Ample C t (out .up) (out .ui) (part 1 (n + 1) (placed 0 (n + 1) w3 a)) (out .li)
+    fill-columns-asks {w = w} e = (
+      v,
+      given v (r .tree-is),
+      part-long n w (rw (e, length-cleared 0 n w2) (r .w2-long)),
+      zeros-front n w2 (r .w2-long) e,
       record {
-        us = upper C;
-        small = v .cols;
-        count = upper-size v;
-        once = promised C (columns-fit v) .once;
-        below = below;
-        pointed = rw e (pointed-onto (upper C) (out .up) (omega (arith, upper-size v, r .up-room)));
         size = r .size;
         few = r .few;
-        room = rw (f, length-onto (out .ui) (flatten (upper C)) (omega (arith, length-laid (upper C), r .size, r .ui-room))) (r .ui-room);
-        laid = λ q l. rw f (getD-onto-front (out .ui) (flatten (upper C)) 0 q (omega (arith, length-laid (upper C))));
-      }
+        up-room = omega (arith, columns-long v, r .up-room);
+        ui-room = r .ui-room;
+        li-room = r .li-room;
+        ends = ending;
+      },
+    )
 
-  pub fill-lower-asks : {up ui : List ℕ} (w : List ℕ) → up ≡ onto (out .up) (starts 0 (upper C)) → ui ≡ onto (out .ui) (flatten (upper C)) → Kept 0 (n + 1) w3 w
-      → Whole n t up ui × (n + 1 ≤ length w) × (n + 1 ≤ length (out .lp)) × (t ≤ length (out .li))
-  fill-lower-asks w e f k = (whole e f, rw (k .long) (r .w3-long), r .lp-room, r .li-room)
+    -- the counts once they have been used up
+    pub next-back : (ys : List ℕ) → length ys ≡ length (part 1 (n + 1) (placed 0 (n + 1) w3 a)) → length (placed 1 (n + 1) (placed 0 (n + 1) w3 a) ys) ≡ length w3
+    next-back ys e = length-placed 1 (n + 1) (placed 0 (n + 1) w3 a) ys (omega arith) next-end (omega (arith, next-part)) ∙ next-long
+
+    next-kept : (ys : List ℕ) → length ys ≡ length (part 1 (n + 1) (placed 0 (n + 1) w3 a)) → Kept 0 (n + 1) w3 (placed 1 (n + 1) (placed 0 (n + 1) w3 a) ys)
+    next-kept ys e =
+        record {
+          long = next-back ys e;
+          rest = λ q l. placed-after 0 1 (n + 1) (placed 0 (n + 1) w3 a) ys (omega arith) next-end (omega (arith, next-part)) q l ∙ ap (λ (d : List ℕ). getD d q 0) next-is
+              ∙ getD-onto-rest w3 (starts 0 L) 0 q (omega (arith, starts-size));
+        }
 
   pub copy-asks : length (part 0 n w1) ≤ length (out .tree)
   copy-asks = rw (part-long n w1 (r .w1-long)) (r .tree-room)
 
-  pub filled-out : {tr up ui lp li w2a w3a w3b : List ℕ} (ys : List ℕ) → tr ≡ onto (out .tree) (part 0 n w1)
-      → (e : up ≡ onto (out .up) (starts 0 (upper C))) → (f : ui ≡ onto (out .ui) (flatten (upper C))) → Kept 0 (n + 1) w3 w3a
-      → ((w : Whole n t up ui) → (lp ≡ onto (out .lp) (starts 0 (transposed (w .us)))) × (li ≡ onto (out .li) (flatten (transposed (w .us)))) × Kept 0 (n + 1) w3a w3b)
-      → w2a ≡ cleared 0 n w2 → length ys ≡ length (part 0 n w2a)
-      → (analysis tr up ui lp li ≡ written (analysed C) out) × Kept 0 (n + 1) w2 (placed 0 n w2a ys) × Kept 0 (n + 1) w3 w3b
-  unfolding written analysed lower whole
-  filled-out {w2a = w2a} ys a e f k g h m =
-      let z = g (whole e f) in
+  pub filled-out : {tr up ui li w2a a b : List ℕ} (ys zs : List ℕ) → tr ≡ onto (out .tree) (part 0 n w1)
+      → (a ≡ onto (part 0 (n + 1) w3) (sums 0 (fronts (n + 1) w3 (out .lp)))) → (b ≡ onto (part 0 (n + 1) (out .lp)) (sums 0 (fronts (n + 1) w3 (out .lp))))
+      → (up ≡ onto (out .up) (starts 0 (upper C))) × (ui ≡ onto (out .ui) (flatten (upper C))) × (li ≡ onto (out .li) (flatten L))
+      → length zs ≡ length (part 1 (n + 1) (placed 0 (n + 1) w3 a)) → w2a ≡ cleared 0 n w2 → length ys ≡ length (part 0 n w2a)
+      → (analysis tr up ui (placed 0 (n + 1) (out .lp) b) li ≡ written (analysed C) out) × Kept 0 (n + 1) w2 (placed 0 n w2a ys) × Kept 0 (n + 1) w3 (placed 1 (n + 1) (placed 0 (n + 1) w3 a) zs)
+  unfolding written analysed
+  filled-out {w2a = w2a} ys zs d x y g z h m =
       let l : n ≤ length w2a = rw (h, length-cleared 0 n w2) (r .w2-long) in
-      let b = a ∙ ap (onto (out .tree)) (r .tree-is) in
-      (λ x. analysis (b x) (e x) (f x) (z .0 x) (z .1 x), kept-wider (n + 1) (omega arith) (kept-then (kept-cleared n h) (kept-placed n w2a ys (m ∙ part-long n w2a l) l)), kept-then k (z .2))
+      let c = d ∙ ap (onto (out .tree)) (r .tree-is) in
+      let f = sums-b L (n + 1) w3 (out .lp) many (r .w3-long) (r .lp-room) (r .lengths-are) small y in
+      (λ q. analysis (c q) (g .0 q) (g .1 q) (f q) (g .2 q), kept-wider (n + 1) (omega arith) (kept-then (kept-cleared n h) (kept-placed n w2a ys (m ∙ part-long n w2a l) l)), next-kept x zs z)
 
 -- ---- `analyse`
 number-is : (a : Pattern) (old : Lent Analysis) → number a old ≡ lowest (judged6 a (old .work) ++ ((7, short (analysed (columns a)) (old .out)) ∷ []))
@@ -179,7 +210,7 @@ module _ {nrows n : ℕ} {p i w1 w2 w3 : List ℕ} {x : List Float} {old : Scrat
       (kept-clears c ∙ ap (cleared 0 (n + 1)) w3-is ∙ cleared-again 0 (n + 1) (old .w3))
       (ap (cleared none (n + 1)) x-is ∙ cleared-again none (n + 1) (old .x))
 
-  module _ {t : ℕ} {w1′ w2′ w3′ : List ℕ} (B : Begun D n t w1 w1′ w2 w2′ w3 w3′) where
+  module _ {t : ℕ} {w1′ w2′ w3′ : List ℕ} (B : Outlined D n t w1 w1′ w2 w2′ w3 w3′) where
     pub kept1 : Kept 0 (n + 1) w1 w1′
     kept1 = rw (B .tree-is) (kept-onto (n + 1) w1 (tree D) (omega (arith, tree-size square-valid)) (omega (arith, tree-size square-valid, long1)))
 
@@ -193,8 +224,8 @@ module _ {nrows n : ℕ} {p i w1 w2 w3 : List ℕ} {x : List Float} {old : Scrat
     pub size-is : t ≤ 4194304 → t ≡ entries (upper D)
     size-is h = omega (arith, B .count)
 
-    pub lengths-front : t ≤ 4194304 → take (n + 1) w3′ ≡ lengths (upper D) ++ (0 ∷ [])
-    lengths-front h = lengths-there square-valid B long3 (rw w3-is (cleared-front 0 (n + 1) (old .w3) n (omega arith))) h
+    pub lengths-front : t ≤ 4194304 → take (n + 1) w3′ ≡ lengths (lower D) ++ (0 ∷ [])
+    lengths-front h = counts-there square-valid (old .w3) B w3-is (P .wide .in-w3) h
 
     module _ (out : Analysis) where
       abbrev room : Bool

@@ -1,30 +1,30 @@
 -- The steps of src/fill.rt: what each call in them is given, and what they leave. Assumes nothing.
 use mathlib.Core.Path.{_≡_, refl, sym, ap, _∙_}
 use mathlib.Core.List.{List, [], _∷_, _++_, flatten}
-use Prim.Native.Nat.{ℕ, _+_, _-_, _≤_, _<_, _^_, min}
+use Prim.Native.Nat.{ℕ, _+_, _≤_, _<_, min}
 use native.Mathlib.Omega.{arith}
 use lib.ListN.{length, getD, take, drop}
 use lib.Seq.{take-append-add}
 use Rattle.lists.specs.Calls.{onto, cleared}
-use Rattle.lists.specs.Keys.{byKey}
 use Rattle.lists.specs.Parts.{part, placed}
-use Rattle.lists.specs.Sums.{counted, sums}
+use Rattle.lists.specs.Sums.{counted}
 use Rattle.lists.specs.Keeping.{Kept}
 use Rattle.lists.proofs.Clearing.{length-cleared, cleared-front}
 use Rattle.lists.proofs.Laying.{placed-front, part-long, part-onto}
 use Rattle.lists.proofs.Parts.{getD-part, left-at}
 use Rattle.cs_matrix.specs.Matrix.{pattern, ValidPattern}
-use Rattle.cs_tree.specs.Pattern.{upper, transposed, starts, entries}
-use Rattle.cs_tree.specs.Steps.{Given, Zeros, Pointed, lengths, numbers, Spreads, Whole}
+use Rattle.cs_tree.specs.Pattern.{upper, lower, starts, entries}
+use Rattle.cs_tree.specs.Steps.{Given, Zeros, lengths, Whole}
 use Rattle.cs_tree.specs.Tree.{tree}
 use Rattle.cs_tree.proofs.Count.{length-starts}
+use Rattle.cs_tree.proofs.Falling.{upper-once, upper-below}
 use Rattle.cs_tree.proofs.Filling.{upper-long}
 use Rattle.cs_tree.proofs.Growing.{tree-long}
-use Rattle.lists.proofs.Keeping.{kept-then, kept-wider, kept-cleared, kept-onto, kept-placed}
-use Rattle.cs_tree.proofs.Laid.{length-lengths}
-use Rattle.cs_tree.proofs.Lowering.{fronts, sums-a, sums-b, pointed-onto, counted-are, next1-long, spreads, put-is, next-kept, entries-lower, lower-long}
+use Rattle.lists.proofs.Keeping.{kept-then, kept-cleared, kept-placed}
+use Rattle.cs_tree.proofs.Laid.{length-lengths, start-at, length-laid}
+use Rattle.cs_tree.proofs.Lowering.{counted-are, rows-are}
 use Rattle.cs_pattern.specs.Columns.{columns}
-use Rattle.cs_pattern.specs.Steps.{Begun}
+use Rattle.cs_pattern.specs.Steps.{Begun, Outlined}
 use Rattle.cs_pattern.proofs.Columns.{columns-fit, columns-long, given}
 
 pub zeros-front : (n : ℕ) (w : List ℕ) {v : List ℕ} → n ≤ length w → v ≡ cleared 0 n w → Zeros (part 0 n v)
@@ -74,6 +74,23 @@ module _ {n : ℕ} {p i : List ℕ} (v : ValidPattern (pattern n n p i)) where
           lengths-are = λ h. ap (placed 0 n w3) (z .1 h) ∙ placed-front w3 (lengths (upper C)) n (length-lengths (upper C) ∙ upper-size);
         }
 
+    -- ---- `outline`, which starts likewise
+    pub outline-asks : ValidPattern (pattern n n p i) × Given C (part 0 n (placed 0 n w1 t)) × (length (part 0 n w2b) ≡ n) × Zeros (part 0 n w2b) × (n ≤ length w3)
+    outline-asks = (begin-asks .0, begin-asks .1, begin-asks .2, begin-asks .3, l3)
+
+    pub outlined : {r : ℕ} (b : List ℕ) {c : List ℕ} → length b ≡ length (part 0 n w2b)
+        → (r ≡ min (entries (upper C)) 4194305) × Kept 0 n w3 c × (r ≤ 4194304 → c ≡ counted (flatten (upper C)) w3)
+        → Outlined C n r w1 (placed 0 n w1 t) w2 (placed 0 n w2b b) w3 c
+    outlined b x z =
+        let lb : n ≤ length w2b = rw (kept-b .long) l2 in
+        record {
+          count = z .0;
+          tree-is = ap (placed 0 n w1) e ∙ placed-front w1 (tree C) n tree-size;
+          kept2 = kept-then kept-b (kept-placed n w2b b (x ∙ part-long n w2b lb) lb);
+          kept3 = z .1;
+          counts-are = z .2;
+        }
+
   -- the lengths of U's columns and a zero behind them, where they are not too many
   pub lengths-there : {t : ℕ} {w1 w1′ w2 w2′ w3 w3′ : List ℕ} → Begun C n t w1 w1′ w2 w2′ w3 w3′ → n + 1 ≤ length w3 → getD w3 n 0 ≡ 0 → t ≤ 4194304 → take (n + 1) w3′ ≡ lengths (upper C) ++ (0 ∷ [])
   unfolding onto
@@ -84,59 +101,25 @@ module _ {n : ℕ} {p i : List ℕ} (v : ValidPattern (pattern n n p i)) where
       ap (take (n + 1)) (B .lengths-are h) ∙ ap (λ (k : ℕ). take k (lengths (upper C) ++ drop (length (lengths (upper C))) w3)) e
       ∙ take-append-add (lengths (upper C)) (drop (length (lengths (upper C))) w3) 1 ∙ ap (λ (y : List ℕ). lengths (upper C) ++ take 1 y) d
 
-  -- ---- `fill_upper`
-  module _ (counts up : List ℕ) (h : take (n + 1) counts ≡ lengths (upper C) ++ (0 ∷ [])) (l : n + 1 ≤ length counts) (m : n + 1 ≤ length up) (few : entries (upper C) ≤ 4194304) where
-    sure : n + 1 ≡ length (upper C) + 1
-    sure = omega (arith, upper-size)
+  -- the lengths of L's columns and a zero behind them, where they are not too many
+  whole : {t : ℕ} → t ≡ entries (upper C) → t ≤ 4194304 → Whole n t (starts 0 (upper C)) (flatten (upper C))
+  whole e h =
+      record {
+        us = upper C;
+        small = v .cols;
+        count = upper-size;
+        once = upper-once (given v refl);
+        below = λ k x m. omega (arith, upper-below (given v refl) k x m, columns-long v);
+        pointed = record { long = omega (arith, length-starts 0 (upper C)); at = λ k l. start-at (upper C) k l };
+        size = e;
+        few = h;
+        room = omega (arith, length-laid (upper C));
+        laid = λ q l. refl;
+      }
 
-    fits : entries (upper C) < 2 ^ 32
-    fits = omega arith
-
-    pub up-is : {b : List ℕ} → b ≡ onto (part 0 (n + 1) up) (sums 0 (fronts (n + 1) counts up)) → placed 0 (n + 1) up b ≡ onto up (starts 0 (upper C))
-    up-is y = sums-b (upper C) (n + 1) counts up sure l m h fits y
-
-    pub up-pointed : {b : List ℕ} → b ≡ onto (part 0 (n + 1) up) (sums 0 (fronts (n + 1) counts up)) → Pointed (upper C) (placed 0 (n + 1) up b)
-    up-pointed y = rw (up-is y) (pointed-onto (upper C) up (omega (arith, upper-size)))
-
-    pub counts-kept : {a : List ℕ} → a ≡ onto (part 0 (n + 1) counts) (sums 0 (fronts (n + 1) counts up)) → Kept 0 (n + 1) counts (placed 0 (n + 1) counts a)
-    counts-kept x = rw (sums-a (upper C) (n + 1) counts up sure l m h fits x) (kept-onto (n + 1) counts (starts 0 (upper C)) (omega (arith, length-starts 0 (upper C), upper-size)) (omega (arith, length-starts 0 (upper C), upper-size, l)))
-
--- ---- `fill_lower`
-module _ {n t : ℕ} {up ui : List ℕ} (next lp li : List ℕ) (l : n + 1 ≤ length next) (m : n + 1 ≤ length lp) (o : t ≤ length li)
-    {z k a b : List ℕ} (e : z ≡ cleared 0 (n + 1) next) (f : k ≡ counted (part 0 t ui) z)
-    (x : a ≡ onto (part 0 (n + 1) k) (sums 0 (fronts (n + 1) k lp))) (y : b ≡ onto (part 0 (n + 1) lp) (sums 0 (fronts (n + 1) k lp))) where
-  module _ (w : Whole n t up ui) where
-    abbrev ls : List (List ℕ)
-    ls = transposed (w .us)
-
-    abbrev counts : List ℕ
-    counts = counted (part 0 t ui) (cleared 0 (n + 1) next)
-
-    counts-are : k ≡ counts
-    counts-are = f ∙ ap (counted (part 0 t ui)) e
-
-    are : take (n + 1) k ≡ lengths ls ++ (0 ∷ [])
-    are = ap (take (n + 1)) counts-are ∙ counted-are w (n + 1) next refl l
-
-    long : n + 1 ≤ length k
-    long = omega (arith, ap length counts-are, next1-long w (n + 1) next refl l)
-
-    many : n + 1 ≡ length ls + 1
-    many = omega (arith, lower-long w)
-
-    small : entries ls < 2 ^ 32
-    small = omega (arith, entries-lower w, w .few)
-
-    next-is : placed 0 (n + 1) k a ≡ onto counts (starts 0 ls)
-    next-is = sums-a ls (n + 1) k lp many long m are small x ∙ ap (λ (d : List ℕ). onto d (starts 0 ls)) counts-are
-
-    pub lower-asks : (n ≤ 65535) × Spreads n up ui (placed 0 (n + 1) k a) li
-    lower-asks = (w .small, rw next-is (spreads w (n + 1) next refl l li o))
-
-    pub lower-done : {li1 next1 : List ℕ}
-        → ((s : Spreads n up ui (placed 0 (n + 1) k a) li) → (li1 ≡ onto li (byKey n (flatten (s .us)) (numbers 0 (s .us)))) × Kept 0 n (placed 0 (n + 1) k a) next1)
-        → (placed 0 (n + 1) lp b ≡ onto lp (starts 0 ls)) × (li1 ≡ onto li (flatten ls)) × Kept 0 (n + 1) next next1
-    lower-done {li1 = li1} {next1 = next1} g =
-        let h = rw next-is at g in
-        let r = h (spreads w (n + 1) next refl l li o) in
-        (sums-b ls (n + 1) k lp many long m are small y, r .0 ∙ ap (onto li) (put-is w (n + 1) next refl l li o), next-kept w (n + 1) next refl l (r .1))
+  pub counts-there : {t : ℕ} {w1 w1′ w2 w2′ w3 w3′ : List ℕ} (d : List ℕ) → Outlined C n t w1 w1′ w2 w2′ w3 w3′ → w3 ≡ cleared 0 (n + 1) d → n + 1 ≤ length d → t ≤ 4194304 → take (n + 1) w3′ ≡ lengths (lower C) ++ (0 ∷ [])
+  unfolding lower whole
+  counts-there d B e l h =
+      let w = whole (omega (arith, B .count)) h in
+      ap (take (n + 1)) (B .counts-are h ∙ ap (counted (flatten (upper C))) e ∙ ap (λ (k : List ℕ). counted k (cleared 0 (n + 1) d)) (sym (rows-are w)))
+      ∙ counted-are w (n + 1) d refl l

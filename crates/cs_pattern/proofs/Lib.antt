@@ -1,4 +1,5 @@
 pub mod Columns
+pub mod Falls
 pub mod Filled
 pub mod Promising
 pub mod Analysing

@@ -11,13 +11,13 @@ ghost use Rattle.cs_pattern.specs.Analyse.{number, written};
 ghost use Rattle.cs_pattern.specs.Columns.{columns};
 ghost use Rattle.cs_pattern.specs.Promise.{Analysed};
 ghost use Rattle.cs_pattern.specs.Steps.{Ready};
-use crate::fill::begin;
 use crate::fill::copy;
-use crate::fill::fill_lower;
-use crate::fill::fill_upper;
+use crate::fill::outline;
+use crate::upper::fill_columns;
 use cs_matrix::square::prepare;
 use lists::clear::clear;
 use lists::clear::clear_scratch;
+use lists::sums::cumsum;
 
 // An output is shorter than needed, or U has more than 4,194,304 entries; t is their number.
 fn too_short(n: usize, t: usize, tree: usize, up: usize, ui: usize, lp: usize, li: usize) -> bool
@@ -65,8 +65,21 @@ fn fill(
         × Kept 0 (n + 1) (now (w2 .entry)) (now (w2 .exit)) × Kept 0 (n + 1) (now (w3 .entry)) (now (w3 .exit))) ⌝ }
 {
     clear(n, w2);
-    fill_upper(n, p, i, &w1[0..n], &mut w2[0..n], w3, up, ui);
-    fill_lower(n, t, up, ui, w3, lp, li);
+    let m = n + 1;
+    cumsum(&mut w3[0..m], &mut lp[0..m]);
+    // summed up, each place but the first has where the column of L before it ends
+    fill_columns(
+        n,
+        t,
+        p,
+        i,
+        &w1[0..n],
+        &mut w2[0..n],
+        up,
+        ui,
+        &mut w3[1..m],
+        li,
+    );
     copy(&w1[0..n], tree);
 }
 
@@ -97,7 +110,7 @@ pub fn analyse(
     if refused != 0 {
         return refused;
     }
-    let t = begin(ncols, p, i, w1, w2, w3);
+    let t = outline(ncols, p, i, w1, w2, w3);
     if too_short(ncols, t, tree.len(), up.len(), ui.len(), lp.len(), li.len()) {
         clear_scratch(ncols + 1, w1, w2, w3, x);
         return 7;

@@ -2,6 +2,7 @@
 // walks up the tree, L as U transposed.
 pub mod analyse;
 pub mod compare;
+mod count;
 mod fill;
 mod look;
 mod lower;

@@ -1,9 +1,10 @@
 // A column of U: from each of its stored rows up the tree, until the column's number is passed or an index that is listed already.
-// An index that is listed in column k is marked by k + 1, so that no mark has to be taken back.
+// An index that is listed is marked by one more than the columns before it, so that no mark has to be taken back.
 ghost use mathlib.Core.Path.{_≡_};
 ghost use mathlib.Core.List.{List, [], _++_};
-ghost use Prim.Native.Nat.{ℕ, _+_, _≤_};
+ghost use Prim.Native.Nat.{ℕ, _+_, _≤_, _<_};
 ghost use lib.ListN.{length, take, drop};
+ghost use Rattle.cs_tree.specs.Falling.{Reached};
 ghost use Rattle.cs_tree.specs.Pattern.{paths};
 ghost use Rattle.cs_tree.specs.Steps.{Walks, Marks, Walked, Roomy, Traced};
 use lists::numbers::wide;
@@ -11,7 +12,7 @@ use lists::numbers::wide;
 // Walks up from a row and marks what was not yet listed. The answer is how many there are.
 fn walk(k: u32, row: u32, par: &[u32], mark: &mut [u32]) -> usize
     requires { ⌜ Walks k (now par) (now mark) ⌝ }
-    ensures { λ r. ⌜ (r ≤ k + 1) × ((older : List ℕ) → Marks k (now (mark .entry)) older → Walked k (now (par .entry)) row older r (now (mark .exit))) ⌝ }
+    ensures { λ r. ⌜ (r ≤ k + 1) × ((older : List ℕ) → Marks k (now (mark .entry)) older → Walked k k (now (par .entry)) row older r (now (mark .exit))) ⌝ }
 {
     let top = wide(k);
     let stamp = k + 1;
@@ -28,12 +29,13 @@ fn walk(k: u32, row: u32, par: &[u32], mark: &mut [u32]) -> usize
     len
 }
 
-// The same, and what was not yet listed is listed in the front of out, which has room for it.
-fn trace(k: u32, row: u32, par: &[u32], mark: &mut [u32], out: &mut [u32]) -> usize
-    requires { ⌜ Walks k (now par) (now mark) × Roomy k (now par) row (now mark) (now out) ⌝ }
-    ensures { λ r. ⌜ ((s : Roomy k (now (par .entry)) row (now (mark .entry)) (now (out .entry))) → Traced k (now (par .entry)) row (s .older) r (now (mark .exit)) (now (out .exit))) ⌝ }
+// The same in the column that s columns came before, and what was not yet listed is listed in the front of out, which has room for it.
+fn trace(k: u32, s: u32, row: u32, par: &[u32], mark: &mut [u32], out: &mut [u32]) -> usize
+    requires { ⌜ (s < 65535) × Walks k (now par) (now mark) × Roomy s k (now par) row (now mark) (now out) ⌝ }
+    ensures { λ r. ⌜ ((o : Roomy s k (now (par .entry)) row (now (mark .entry)) (now (out .entry)))
+        → Traced s k (now (par .entry)) row (o .older) r (now (mark .exit)) (now (out .exit))) ⌝ }
 {
-    let stamp = k + 1;
+    let stamp = s + 1;
     let mut c = row;
     let mut len = 0;
     while c <= k {
@@ -81,16 +83,35 @@ pub fn column_length(k: u32, rows: &[u32], par: &[u32], mark: &mut [u32]) -> usi
     count
 }
 
-// Column k of U, in out, which has room for exactly that: a stack filled from its end, whose free front each way is listed in first.
+// Column k of U, in out so that it ends at end: a stack filled downward, whose free front each way is listed in first. The answer is
+// where it starts.
+pub fn lay(
+    k: u32,
+    s: u32,
+    rows: &[u32],
+    par: &[u32],
+    mark: &mut [u32],
+    end: usize,
+    out: &mut [u32],
+) -> usize
+    requires { ⌜ (s < 65535) × Walks k (now par) (now mark) × Marks s (now mark) [] × (end ≤ length (now out)) × (length (paths (now par) k (now rows) []) ≤ end) ⌝ }
+    ensures { λ r. ⌜ Reached s k (now (par .entry)) (now (rows .entry)) end (now (out .entry)) r (now (mark .exit)) (now (out .exit)) ⌝ }
+{
+    let mut top = end;
+    let mut q = 0;
+    while q < rows.len() {
+        let len = trace(k, s, rows[q], par, mark, &mut out[0..top]);
+        top = shift(len, top, out);
+        q += 1;
+    }
+    top
+}
+
+// Column k of U, in out, which has room for exactly that.
 pub fn reach(k: u32, rows: &[u32], par: &[u32], mark: &mut [u32], out: &mut [u32])
     requires { ⌜ Walks k (now par) (now mark) × Marks k (now mark) [] × (length (now out) ≡ length (paths (now par) k (now rows) [])) ⌝ }
     ensures { λ _. ⌜ (now (out .exit) ≡ paths (now (par .entry)) k (now (rows .entry)) []) × Marks k (now (mark .exit)) (now (out .exit)) ⌝ }
 {
-    let mut top = out.len();
-    let mut q = 0;
-    while q < rows.len() {
-        let len = trace(k, rows[q], par, mark, &mut out[0..top]);
-        top = shift(len, top, out);
-        q += 1;
-    }
+    let end = out.len();
+    lay(k, k, rows, par, mark, end, out);
 }

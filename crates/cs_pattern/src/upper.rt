@@ -1,15 +1,17 @@
-// The columns of U: how many entries each has, and each laid behind the earlier ones.
+// The columns of U: how many entries each has, and each laid before the later ones.
 ghost use mathlib.Core.List.{flatten};
 ghost use mathlib.Core.Path.{_≡_};
 ghost use Prim.Native.Nat.{_≤_, min};
 ghost use lib.ListN.{length};
 ghost use Rattle.lists.specs.Calls.{onto};
 ghost use Rattle.cs_matrix.specs.Matrix.{pattern, ValidPattern};
-ghost use Rattle.cs_tree.specs.Pattern.{upper, entries};
-ghost use Rattle.cs_tree.specs.Steps.{Given, Zeros, Pointed, lengths};
+ghost use Rattle.cs_tree.specs.Falling.{Ample};
+ghost use Rattle.cs_tree.specs.Pattern.{upper, lower, starts, entries};
+ghost use Rattle.cs_tree.specs.Steps.{Given, Zeros, lengths};
 ghost use Rattle.cs_pattern.specs.Columns.{columns};
+use crate::lower::lower_column;
 use crate::reach::column_length;
-use crate::reach::reach;
+use crate::reach::lay;
 use lists::numbers::wide;
 
 const MOST: usize = 4194304;
@@ -45,28 +47,38 @@ pub fn count_columns(
     total
 }
 
-// The columns of U in ui, each between its two pointers in up.
-pub fn upper_columns(
+// The columns of U in ui and their pointers in up, and each entry put into L, from the last column to the first. U has t entries, and
+// next has where each column of L ends.
+pub fn fill_columns(
     n: usize,
+    t: usize,
     p: &[u32],
     i: &[u32],
     par: &[u32],
     mark: &mut [u32],
-    up: &[u32],
+    up: &mut [u32],
     ui: &mut [u32],
+    next: &mut [u32],
+    li: &mut [u32],
 )
     requires { ⌜ (let cols = columns (pattern n n (now p) (now i)) in
         ValidPattern (pattern n n (now p) (now i)) × Given cols (now par) × (length (now mark) ≡ n) × Zeros (now mark)
-        × Pointed (upper cols) (now up) × (entries (upper cols) ≤ length (now ui))) ⌝ }
-    ensures { λ _. ⌜ now (ui .exit) ≡ onto (now (ui .entry)) (flatten (upper (columns (pattern n n (now (p .entry)) (now (i .entry)))))) ⌝ }
+        × Ample cols t (now up) (now ui) (now next) (now li)) ⌝ }
+    ensures { λ _. ⌜ (let cols = columns (pattern n n (now (p .entry)) (now (i .entry))) in
+        (now (up .exit) ≡ onto (now (up .entry)) (starts 0 (upper cols))) × (now (ui .exit) ≡ onto (now (ui .entry)) (flatten (upper cols)))
+        × (now (li .exit) ≡ onto (now (li .entry)) (flatten (lower cols)))) ⌝ }
 {
-    let mut k = 0;
-    while k < n {
+    up[n] = t as u32;
+    let mut top = t;
+    let mut k = n;
+    while k > 0 {
+        let s = n - k;
+        k -= 1;
         let a = wide(p[k]);
         let e = wide(p[k + 1]);
-        let b = wide(up[k]);
-        let f = wide(up[k + 1]);
-        reach(k as u32, &i[a..e], par, mark, &mut ui[b..f]);
-        k += 1;
+        let low = lay(k as u32, s as u32, &i[a..e], par, mark, top, ui);
+        lower_column(k as u32, &ui[low..top], next, li);
+        up[k] = low as u32;
+        top = low;
     }
 }

@@ -23,3 +23,5 @@ pub mod Reread
 pub mod Backward
 pub mod Looking
 pub mod Past
+pub mod Bumping
+pub mod Falling

@@ -2,7 +2,7 @@
 -- by row. Assumes nothing.
 use mathlib.Core.Path.{_≡_, refl, sym, ap, _∙_}
 use mathlib.Core.Bool.{false}
-use mathlib.Core.List.{List, [], _∷_, _++_, append-nil}
+use mathlib.Core.List.{List, [], _∷_, _++_, append-nil, append-assoc}
 use Prim.Native.Nat.{ℕ, zero, suc, _+_, _-_, _≤_, _<_}
 use native.Mathlib.Omega.{arith}
 use lib.ListN.{length, getD, set, take, drop, length-set, length-append, take-append-drop}
@@ -16,6 +16,7 @@ use Rattle.lists.proofs.Parts.{left-at, written-more, length-part, length-place
 use Rattle.cs_tree.specs.Tree.{root}
 use Rattle.cs_tree.specs.Pattern.{path, paths}
 use Rattle.cs_tree.specs.Steps.{Marks, Walks, Walked, way, Roomy, Traced}
+use Rattle.cs_tree.specs.Falling.{Reached}
 use Rattle.cs_tree.proofs.Steps.{path-new}
 use Rattle.cs_tree.proofs.Walking.{Walk, walk-start, walk-up, walk-next, walk-seen, walk-over, not-done, walks-on, Listing, listing-start, listing-room, listing-turn, listing-done, listing-all}
 
@@ -29,22 +30,22 @@ pub record Onward (k : ℕ) (par : List ℕ) (row : ℕ) (older out : List ℕ) 
   pub goes : way k par row older ≡ take len out ++ path fuel par k c older
   pub enough : k < c + fuel
 
-pub record Tracing (k : ℕ) (par : List ℕ) (row : ℕ) (mark₀ mark out₀ out : List ℕ) (c len : ℕ) : Type 0 where
-  pub walk : Walk k par row mark₀ mark c len
+pub record Tracing (s k : ℕ) (par : List ℕ) (row : ℕ) (mark₀ mark out₀ out : List ℕ) (c len : ℕ) : Type 0 where
+  pub walk : Walk s k par row mark₀ mark c len
   pub long : length out ≡ length out₀
   pub inside : len ≤ length out
-  pub given : Roomy k par row mark₀ out₀
-  pub tells : (s : Roomy k par row mark₀ out₀) → Onward k par row (s .older) out c len
+  pub given : Roomy s k par row mark₀ out₀
+  pub tells : (o : Roomy s k par row mark₀ out₀) → Onward k par row (o .older) out c len
 
-pub tracing-start : {k : ℕ} {par : List ℕ} {row : ℕ} {mark out : List ℕ} → Walks k par mark → Roomy k par row mark out → Tracing k par row mark mark out out row 0
-tracing-start {k = k} v s =
-    record { walk = walk-start v refl; long = refl; inside = omega arith; given = s; tells = λ t. record { fuel = suc k; goes = refl; enough = omega arith } }
+pub tracing-start : {s k : ℕ} {par : List ℕ} {row : ℕ} {mark out : List ℕ} → Walks k par mark → Roomy s k par row mark out → Tracing s k par row mark mark out out row 0
+tracing-start {k = k} v o =
+    record { walk = walk-start v refl; long = refl; inside = omega arith; given = o; tells = λ t. record { fuel = suc k; goes = refl; enough = omega arith } }
 
-module _ {k : ℕ} {par : List ℕ} {row : ℕ} {mark₀ mark out₀ out : List ℕ} {c len : ℕ} (v : Tracing k par row mark₀ mark out₀ out c len) where
-  told : (s : Roomy k par row mark₀ out₀) → Walked k par row (s .older) len mark → Traced k par row (s .older) len mark out
-  told s w =
-      let t = v .tells s in
-      let rest = path (t .fuel) par k c (s .older) in
+module _ {s k : ℕ} {par : List ℕ} {row : ℕ} {mark₀ mark out₀ out : List ℕ} {c len : ℕ} (v : Tracing s k par row mark₀ mark out₀ out c len) where
+  told : (o : Roomy s k par row mark₀ out₀) → Walked s k par row (o .older) len mark → Traced s k par row (o .older) len mark out
+  told o w =
+      let t = v .tells o in
+      let rest = path (t .fuel) par k c (o .older) in
       let z : length rest ≡ 0 = omega (arith, ap length (t .goes), length-append (take len out) rest, length-take-le len out (v .inside), w .is) in
       record { walked = w; listed = sym (t .goes ∙ ap (λ (l : List ℕ). take len out ++ l) (nothing rest z) ∙ append-nil (take len out)) }
 
@@ -58,53 +59,53 @@ module _ {k : ℕ} {par : List ℕ} {row : ℕ} {mark₀ mark out₀ out : List 
     pub trace-up : c < getD par i 0
     trace-up = rw f (walk-up (v .walk) h)
 
-    module _ (e : getD mark i 0 ≡ k + 1 → ⊥) where
-      new : (s : Roomy k par row mark₀ out₀) → lists c (s .older) ≡ false
-      new s =
-          let w = v .walk .tells (s .older) (s .marks) in
-          let z : getD mark c 0 ≡ k + 1 → ⊥ = rw f at e in
-          sym (not-done w) ∙ sym (w .marks .at c (omega (arith, v .walk .asks .m-long))) ∙ ne-eqb (getD mark c 0) (k + 1) z
+    module _ (e : getD mark i 0 ≡ s + 1 → ⊥) where
+      new : (o : Roomy s k par row mark₀ out₀) → lists c (o .older) ≡ false
+      new o =
+          let w = v .walk .tells (o .older) (o .marks) in
+          let z : getD mark c 0 ≡ s + 1 → ⊥ = rw f at e in
+          sym (not-done w) ∙ sym (w .marks .at c (omega (arith, v .walk .asks .m-long))) ∙ ne-eqb (getD mark c 0) (s + 1) z
 
       up : getD par c root ≡ getD par i 0
       up = rw f (getD-any par c root 0 (omega (arith, v .walk .asks .p-long)))
 
-      on : (s : Roomy k par row mark₀ out₀) (g : ℕ) → path (suc g) par k c (s .older) ≡ c ∷ path g par k (getD par i 0) (s .older)
-      on s g = path-new g par k c (s .older) h (new s) ∙ ap (λ (x : ℕ). c ∷ path g par k x (s .older)) up
+      on : (o : Roomy s k par row mark₀ out₀) (g : ℕ) → path (suc g) par k c (o .older) ≡ c ∷ path g par k (getD par i 0) (o .older)
+      on o g = path-new g par k c (o .older) h (new o) ∙ ap (λ (x : ℕ). c ∷ path g par k x (o .older)) up
 
       -- there is room for one more
       pub trace-room : len < length out
       trace-room = go (v .given) (v .tells (v .given) .fuel) (v .tells (v .given) .goes) (v .tells (v .given) .enough)
         where
-          go : (s : Roomy k par row mark₀ out₀) (g : ℕ) → way k par row (s .older) ≡ take len out ++ path g par k c (s .older) → k < c + g → len < length out
-          go s zero p q = absurd (omega arith)
-          go s (suc g) p q =
+          go : (o : Roomy s k par row mark₀ out₀) (g : ℕ) → way k par row (o .older) ≡ take len out ++ path g par k c (o .older) → k < c + g → len < length out
+          go o zero p q = absurd (omega arith)
+          go o (suc g) p q =
               omega
-              (arith, ap length (p ∙ ap (λ (t : List ℕ). take len out ++ t) (on s g)), length-append (take len out) (c ∷ path g par k (getD par i 0) (s .older)), length-take-le len out (v .inside), s .room, v .long)
+              (arith, ap length (p ∙ ap (λ (t : List ℕ). take len out ++ t) (on o g)), length-append (take len out) (c ∷ path g par k (getD par i 0) (o .older)), length-take-le len out (v .inside), o .room, v .long)
 
-      pub tracing-turn : Tracing k par row mark₀ (set mark i (k + 1)) out₀ (set out len c) (getD par i 0) (len + 1)
+      pub tracing-turn : Tracing s k par row mark₀ (set mark i (s + 1)) out₀ (set out len c) (getD par i 0) (len + 1)
       tracing-turn =
           record {
             walk = rw (← f) at (walk-next (v .walk) h (rw f at e) (ap (λ (x : ℕ). getD par x 0) f));
             long = length-set out len c ∙ v .long;
             inside = omega (arith, length-set out len c, trace-room);
             given = v .given;
-            tells = λ s. go s (v .tells s .fuel) (v .tells s .goes) (v .tells s .enough);
+            tells = λ o. go o (v .tells o .fuel) (v .tells o .goes) (v .tells o .enough);
           }
         where
-          go : (s : Roomy k par row mark₀ out₀) (g : ℕ) → way k par row (s .older) ≡ take len out ++ path g par k c (s .older) → k < c + g → Onward k par row (s .older) (set out len c) (getD par i 0) (len + 1)
-          go s zero p q = absurd (omega arith)
-          go s (suc g) p q =
+          go : (o : Roomy s k par row mark₀ out₀) (g : ℕ) → way k par row (o .older) ≡ take len out ++ path g par k c (o .older) → k < c + g → Onward k par row (o .older) (set out len c) (getD par i 0) (len + 1)
+          go o zero p q = absurd (omega arith)
+          go o (suc g) p q =
               record {
                 fuel = g;
-                goes = p ∙ ap (λ (t : List ℕ). take len out ++ t) (on s g) ∙ sym (written-more out len c (path g par k (getD par i 0) (s .older)) trace-room);
+                goes = p ∙ ap (λ (t : List ℕ). take len out ++ t) (on o g) ∙ sym (written-more out len c (path g par k (getD par i 0) (o .older)) trace-room);
                 enough = omega (arith, trace-up);
               }
 
-    pub trace-seen : getD mark i 0 ≡ k + 1 → (s : Roomy k par row mark₀ out₀) → Traced k par row (s .older) len mark out
-    trace-seen e s = told s (walk-seen (v .walk) h (rw f at e) .1 (s .older) (s .marks))
+    pub trace-seen : getD mark i 0 ≡ s + 1 → (o : Roomy s k par row mark₀ out₀) → Traced s k par row (o .older) len mark out
+    trace-seen e o = told o (walk-seen (v .walk) h (rw f at e) .1 (o .older) (o .marks))
 
-  pub trace-over : k < c → (s : Roomy k par row mark₀ out₀) → Traced k par row (s .older) len mark out
-  trace-over h s = told s (walk-over (v .walk) h .1 (s .older) (s .marks))
+  pub trace-over : k < c → (o : Roomy s k par row mark₀ out₀) → Traced s k par row (o .older) len mark out
+  trace-over h o = told o (walk-over (v .walk) h .1 (o .older) (o .marks))
 
 -- ---- `shift`: from t on the elements are moved
 pub record Shifting (len top low : ℕ) (out₀ out : List ℕ) (t : ℕ) : Type 0 where
@@ -162,29 +163,31 @@ shift-none {len = len} {top = top} {low = low} out e h z =
     let n : len ≡ top = omega arith in
     (omega arith, rw (z, n) (sym (take-append-drop top out)))
 
--- ---- `reach`, row by row
-pub record Reaching (k : ℕ) (par rows mark₀ mark out₀ out : List ℕ) (top q : ℕ) : Type 0 where
+-- ---- `lay`, row by row: what is listed ends where the column is to end, and behind that nothing changes
+pub record Reaching (s k : ℕ) (par rows mark₀ mark out₀ out : List ℕ) (end top q : ℕ) : Type 0 where
   pub asks : Walks k par mark
   pub same : length mark ≡ length mark₀
   pub long : length out ≡ length out₀
-  pub room : length out ≡ length (paths par k rows [])
+  pub inside : end ≤ length out
+  pub room : length (paths par k rows []) ≤ end
   pub count : ℕ
-  pub rest : top + count ≡ length out
-  pub is : Listing k par rows mark count q
-  pub back : drop top out ≡ is .older
+  pub rest : top + count ≡ end
+  pub is : Listing s k par rows mark count q
+  pub back : drop top out ≡ is .older ++ drop end out₀
 
-pub reaching-start : {k : ℕ} {par : List ℕ} (rows : List ℕ) {mark : List ℕ} (out : List ℕ) → Walks k par mark → Marks k mark [] → length out ≡ length (paths par k rows []) → Reaching k par rows mark mark out out (length out) 0
+pub reaching-start : {s k : ℕ} {par : List ℕ} (rows : List ℕ) {mark : List ℕ} (out : List ℕ) {end : ℕ} → Walks k par mark → Marks s mark [] → end ≤ length out → length (paths par k rows []) ≤ end
+    → Reaching s k par rows mark mark out out end end 0
 unfolding listing-start
-reaching-start rows out v m e =
-    record { asks = v; same = refl; long = refl; room = e; count = 0; rest = omega arith; is = listing-start rows m; back = drop-length out }
+reaching-start rows out v m i e =
+    record { asks = v; same = refl; long = refl; inside = i; room = e; count = 0; rest = omega arith; is = listing-start rows m; back = refl }
 
-module _ {k : ℕ} {par rows mark₀ mark out₀ out : List ℕ} {top q : ℕ} (v : Reaching k par rows mark₀ mark out₀ out top q) where
+module _ {s k : ℕ} {par rows mark₀ mark out₀ out : List ℕ} {end top q : ℕ} (v : Reaching s k par rows mark₀ mark out₀ out end top q) where
   pub reaching-end : top ≤ length out
-  reaching-end = omega (arith, v .rest)
+  reaching-end = omega (arith, v .rest, v .inside)
 
   module _ (h : q < length rows) where
     -- what `trace` asks of the free front
-    pub reaching-roomy : Roomy k par (getD rows q 0) mark (part 0 top out)
+    pub reaching-roomy : Roomy s k par (getD rows q 0) mark (part 0 top out)
     reaching-roomy =
         record {
           older = v .is .older;
@@ -192,8 +195,8 @@ module _ {k : ℕ} {par rows mark₀ mark out₀ out : List ℕ} {top q : ℕ} (
           room = omega (arith, length-part 0 top out reaching-end, listing-room (v .is) h refl, v .rest, v .room);
         }
 
-    module _ {len : ℕ} {mark1 ys : List ℕ} (e : length mark1 ≡ length mark) (g : length ys ≡ length (part 0 top out)) (w : (s : Roomy k par (getD rows q 0) mark (part 0 top out)) → Traced k par (getD rows q 0) (s .older) len mark1 ys) where
-      traced : Traced k par (getD rows q 0) (v .is .older) len mark1 ys
+    module _ {len : ℕ} {mark1 ys : List ℕ} (e : length mark1 ≡ length mark) (g : length ys ≡ length (part 0 top out)) (w : (o : Roomy s k par (getD rows q 0) mark (part 0 top out)) → Traced s k par (getD rows q 0) (o .older) len mark1 ys) where
+      traced : Traced s k par (getD rows q 0) (v .is .older) len mark1 ys
       unfolding reaching-roomy
       traced = w reaching-roomy
 
@@ -216,24 +219,30 @@ module _ {k : ℕ} {par rows mark₀ mark out₀ out : List ℕ} {top q : ℕ} (
       ahead = take-append-le len ys (drop (top - 0) (drop 0 out)) (omega (arith, ys-long, reaching-room))
 
       pub reaching-turn : {low : ℕ} {out2 : List ℕ} → length out2 ≡ length (placed 0 top out ys) → (low + len ≡ top) × (drop low out2 ≡ take len (placed 0 top out ys) ++ drop top (placed 0 top out ys))
-          → Reaching k par rows mark₀ mark1 out₀ out2 low (q + 1)
+          → Reaching s k par rows mark₀ mark1 out₀ out2 end low (q + 1)
       unfolding listing-turn
       reaching-turn a b =
           record {
             asks = walks-on (v .asks) e;
             same = e ∙ v .same;
             long = a ∙ filled-long ∙ v .long;
-            room = a ∙ filled-long ∙ v .room;
+            inside = omega (arith, a, filled-long, v .inside);
+            room = v .room;
             count = v .count + len;
-            rest = omega (arith, a, filled-long, v .rest, b .0);
+            rest = omega (arith, v .rest, b .0);
             is = listing-turn (v .is) h refl (traced .walked) refl;
-            back = b .1 ∙ (rw (ahead, behind, traced .listed, v .back));
+            back = b .1 ∙ (rw (ahead, behind, traced .listed, v .back)) ∙ sym (append-assoc (way k par (getD rows q 0) (v .is .older)) (v .is .older) (drop end out₀));
           }
 
-  pub reaching-done : length rows ≤ q → (out ≡ paths par k rows []) × Marks k mark out
+  pub reaching-done : length rows ≤ q → Reached s k par rows end out₀ top mark out
   reaching-done h =
       let d = listing-done (v .is) h in
-      let z : top ≡ 0 = omega (arith, d .0, v .rest, v .room) in
-      let b = v .back in
-      let o : out ≡ paths par k rows [] = (rw z at b) ∙ listing-all (v .is) h in
-      (o, rw o (d .1))
+      record { size = omega (arith, d .0, v .rest); back = v .back ∙ ap (λ (l : List ℕ). l ++ drop end out₀) (listing-all (v .is) h); marks = d .1 }
+
+-- where it fills a slice
+pub reached-whole : {s k : ℕ} {par rows old mark out : List ℕ} {low : ℕ} → length old ≡ length (paths par k rows []) → Reached s k par rows (length old) old low mark out → (out ≡ paths par k rows []) × Marks s mark out
+reached-whole {k = k} {par = par} {rows = rows} {old = old} {out = out} {low = low} e v =
+    let z : low ≡ 0 = omega (arith, v .size) in
+    let b = v .back in
+    let o : out ≡ paths par k rows [] = (rw (z, drop-length old) at b) ∙ append-nil (paths par k rows []) in
+    (o, rw o (v .marks))

@@ -58,25 +58,25 @@ marks-more {k = k} {mark = mark} l acc i h v = record { at = at; most = most }
         (eq-or-ne j i)
 
 -- ---- the walk from a row, with the list `older` before it
-pub record Walking (k : ℕ) (par : List ℕ) (row : ℕ) (older : List ℕ) (i len : ℕ) (mark : List ℕ) : Type 0 where
+pub record Walking (s k : ℕ) (par : List ℕ) (row : ℕ) (older : List ℕ) (i len : ℕ) (mark : List ℕ) : Type 0 where
   pub fuel : ℕ
   pub done : List ℕ
   pub count : len ≡ length done
   pub goes : way k par row older ≡ done ++ path fuel par k i older
   pub enough : k < i + fuel
   pub low : (x : ℕ) → List·Memᴰ x done → x < i
-  pub marks : Marks k mark (done ++ older)
+  pub marks : Marks s mark (done ++ older)
 
-pub walking-start : {k : ℕ} {par : List ℕ} {row : ℕ} {older mark : List ℕ} → Marks k mark older → Walking k par row older row 0 mark
+pub walking-start : {s k : ℕ} {par : List ℕ} {row : ℕ} {older mark : List ℕ} → Marks s mark older → Walking s k par row older row 0 mark
 walking-start {k = k} v = record { fuel = suc k; done = []; count = refl; goes = refl; enough = omega arith; low = λ x m. absurd (List·Memᴰ·not-nil m); marks = v }
 
-module _ {k : ℕ} {par : List ℕ} {row : ℕ} {older : List ℕ} {i len : ℕ} {mark : List ℕ} (v : Walking k par row older i len mark) where
-  ended : path (v .fuel) par k i older ≡ [] → Walked k par row older len mark
+module _ {s k : ℕ} {par : List ℕ} {row : ℕ} {older : List ℕ} {i len : ℕ} {mark : List ℕ} (v : Walking s k par row older i len mark) where
+  ended : path (v .fuel) par k i older ≡ [] → Walked s k par row older len mark
   ended e =
       let g : way k par row older ≡ v .done = v .goes ∙ ap (λ (l : List ℕ). v .done ++ l) e ∙ append-nil (v .done) in
       record { is = rw g (v .count); marks = rw g (v .marks) }
 
-  pub walking-over : k < i → Walked k par row older len mark
+  pub walking-over : k < i → Walked s k par row older len mark
   walking-over h = ended (path-over (v .fuel) par k i older h)
 
   pub not-done : lists i (v .done ++ older) ≡ lists i older
@@ -86,14 +86,14 @@ module _ {k : ℕ} {par : List ℕ} {row : ℕ} {older : List ℕ} {i len : ℕ}
   ]
 
   module _ (h : i ≤ k) (m : i < length mark) where
-    pub walking-seen : getD mark i 0 ≡ k + 1 → Walked k par row older len mark
-    walking-seen e = ended (path-seen (v .fuel) par k i older h (sym not-done ∙ sym (v .marks .at i m) ∙ eq-eqb (getD mark i 0) (k + 1) e))
+    pub walking-seen : getD mark i 0 ≡ s + 1 → Walked s k par row older len mark
+    walking-seen e = ended (path-seen (v .fuel) par k i older h (sym not-done ∙ sym (v .marks .at i m) ∙ eq-eqb (getD mark i 0) (s + 1) e))
 
-    pub walking-next : {n : ℕ} → Above par → i < length par → (getD mark i 0 ≡ k + 1 → ⊥) → n ≡ getD par i 0 → Walking k par row older n (len + 1) (set mark i (k + 1))
+    pub walking-next : {n : ℕ} → Above par → i < length par → (getD mark i 0 ≡ s + 1 → ⊥) → n ≡ getD par i 0 → Walking s k par row older n (len + 1) (set mark i (s + 1))
     walking-next {n = n} a l e f = go (v .fuel) (v .goes) (v .enough)
       where
         new : lists i older ≡ false
-        new = sym not-done ∙ sym (v .marks .at i m) ∙ ne-eqb (getD mark i 0) (k + 1) e
+        new = sym not-done ∙ sym (v .marks .at i m) ∙ ne-eqb (getD mark i 0) (s + 1) e
 
         same : getD par i root ≡ n
         same = getD-any par i root 0 l ∙ sym f
@@ -101,7 +101,7 @@ module _ {k : ℕ} {par : List ℕ} {row : ℕ} {older : List ℕ} {i len : ℕ}
         rise : i < n
         rise = omega (arith, a .up i l)
 
-        go : (g : ℕ) → way k par row older ≡ v .done ++ path g par k i older → k < i + g → Walking k par row older n (len + 1) (set mark i (k + 1))
+        go : (g : ℕ) → way k par row older ≡ v .done ++ path g par k i older → k < i + g → Walking s k par row older n (len + 1) (set mark i (s + 1))
         go zero p q = absurd (omega arith)
         go (suc g) p q =
             record {
@@ -118,17 +118,17 @@ module _ {k : ℕ} {par : List ℕ} {row : ℕ} {older : List ℕ} {i len : ℕ}
             }
 
 -- the loop of `walk`: it ends without the marks telling anything, and tells for every list that they may stand for
-pub record Walk (k : ℕ) (par : List ℕ) (row : ℕ) (mark₀ mark : List ℕ) (i len : ℕ) : Type 0 where
+pub record Walk (s k : ℕ) (par : List ℕ) (row : ℕ) (mark₀ mark : List ℕ) (i len : ℕ) : Type 0 where
   pub asks : Walks k par mark
   pub same : length mark ≡ length mark₀
   pub paced : len ≤ i
   pub short : len ≤ k + 1
-  pub tells : (older : List ℕ) → Marks k mark₀ older → Walking k par row older i len mark
+  pub tells : (older : List ℕ) → Marks s mark₀ older → Walking s k par row older i len mark
 
-pub walk-start : {k : ℕ} {par : List ℕ} {row i : ℕ} {mark : List ℕ} → Walks k par mark → i ≡ row → Walk k par row mark mark i 0
+pub walk-start : {s k : ℕ} {par : List ℕ} {row i : ℕ} {mark : List ℕ} → Walks k par mark → i ≡ row → Walk s k par row mark mark i 0
 walk-start v e = record { asks = v; same = refl; paced = omega arith; short = omega arith; tells = λ older m. rw e (walking-start m) }
 
-module _ {k : ℕ} {par : List ℕ} {row : ℕ} {mark₀ mark : List ℕ} {i len : ℕ} (v : Walk k par row mark₀ mark i len) where
+module _ {s k : ℕ} {par : List ℕ} {row : ℕ} {mark₀ mark : List ℕ} {i len : ℕ} (v : Walk s k par row mark₀ mark i len) where
   module _ (h : i ≤ k) where
     in-par : i < length par
     in-par = omega (arith, v .asks .p-long)
@@ -140,20 +140,20 @@ module _ {k : ℕ} {par : List ℕ} {row : ℕ} {mark₀ mark : List ℕ} {i len
     pub walk-up : i < getD par i 0
     walk-up = v .asks .above .up i in-par
 
-    pub walk-next : {n : ℕ} → (getD mark i 0 ≡ k + 1 → ⊥) → n ≡ getD par i 0 → Walk k par row mark₀ (set mark i (k + 1)) n (len + 1)
+    pub walk-next : {n : ℕ} → (getD mark i 0 ≡ s + 1 → ⊥) → n ≡ getD par i 0 → Walk s k par row mark₀ (set mark i (s + 1)) n (len + 1)
     walk-next e f =
         record {
           asks = record { small = v .asks .small; p-long = v .asks .p-long; m-long = rw length-set (v .asks .m-long); above = v .asks .above };
-          same = length-set mark i (k + 1) ∙ v .same;
+          same = length-set mark i (s + 1) ∙ v .same;
           paced = omega (arith, walk-up, v .paced);
           short = omega (arith, v .paced);
           tells = λ older m. walking-next (v .tells older m) h in-mark (v .asks .above) in-par e f;
         }
 
-    pub walk-seen : getD mark i 0 ≡ k + 1 → (len ≤ k + 1) × ((older : List ℕ) → Marks k mark₀ older → Walked k par row older len mark)
+    pub walk-seen : getD mark i 0 ≡ s + 1 → (len ≤ k + 1) × ((older : List ℕ) → Marks s mark₀ older → Walked s k par row older len mark)
     walk-seen e = (v .short, λ older m. walking-seen (v .tells older m) h in-mark e)
 
-  pub walk-over : k < i → (len ≤ k + 1) × ((older : List ℕ) → Marks k mark₀ older → Walked k par row older len mark)
+  pub walk-over : k < i → (len ≤ k + 1) × ((older : List ℕ) → Marks s mark₀ older → Walked s k par row older len mark)
   walk-over h = (v .short, λ older m. walking-over (v .tells older m) h)
 
 -- ---- row by row
@@ -167,16 +167,16 @@ longer k par [] older = omega arith
 longer k par (i ∷ is) older = omega (arith, longer k par is (front k par i older), length-append (way k par i older) older)
 
 -- the rows below q are done, with `older` listed
-pub record Listing (k : ℕ) (par rows : List ℕ) (mark : List ℕ) (count q : ℕ) : Type 0 where
+pub record Listing (s k : ℕ) (par rows : List ℕ) (mark : List ℕ) (count q : ℕ) : Type 0 where
   pub older : List ℕ
   pub is : Along (front k par) rows [] older q
-  pub marks : Marks k mark older
+  pub marks : Marks s mark older
   pub counts : count ≡ length older
 
-unfoldable pub listing-start : {k : ℕ} {par : List ℕ} (rows : List ℕ) {mark : List ℕ} → Marks k mark [] → Listing k par rows mark 0 0
+unfoldable pub listing-start : {s k : ℕ} {par : List ℕ} (rows : List ℕ) {mark : List ℕ} → Marks s mark [] → Listing s k par rows mark 0 0
 listing-start {k = k} {par = par} rows v = record { older = []; is = along-start (front k par) rows []; marks = v; counts = refl }
 
-module _ {k : ℕ} {par rows mark : List ℕ} {count q : ℕ} (v : Listing k par rows mark count q) where
+module _ {s k : ℕ} {par rows mark : List ℕ} {count q : ℕ} (v : Listing s k par rows mark count q) where
   module _ {row : ℕ} (h : q < length rows) (e : row ≡ getD rows q 0) where
     pub turned : Along (front k par) rows [] (front k par row (v .older)) (q + 1)
     turned = along-turn (front k par) rows 0 (v .is) h (ap (λ (r : ℕ). front k par r (v .older)) e)
@@ -187,8 +187,8 @@ module _ {k : ℕ} {par rows mark : List ℕ} {count q : ℕ} (v : Listing k par
     listing-room =
         omega (arith, ap length (turned .rest), longer k par (drop (q + 1) rows) (front k par row (v .older)), length-append (way k par row (v .older)) (v .older), v .counts)
 
-  module _ {row len : ℕ} {mark1 : List ℕ} (h : q < length rows) (e : row ≡ getD rows q 0) (w : Walked k par row (v .older) len mark1) where
-    unfoldable pub listing-turn : {c : ℕ} → c ≡ count + len → Listing k par rows mark1 c (q + 1)
+  module _ {row len : ℕ} {mark1 : List ℕ} (h : q < length rows) (e : row ≡ getD rows q 0) (w : Walked s k par row (v .older) len mark1) where
+    unfoldable pub listing-turn : {c : ℕ} → c ≡ count + len → Listing s k par rows mark1 c (q + 1)
     listing-turn f =
         record {
           older = front k par row (v .older);
@@ -197,7 +197,7 @@ module _ {k : ℕ} {par rows mark : List ℕ} {count q : ℕ} (v : Listing k par
           counts = omega (arith, length-append (way k par row (v .older)) (v .older), w .is, v .counts);
         }
 
-  pub listing-done : length rows ≤ q → (count ≡ length (paths par k rows [])) × Marks k mark (paths par k rows [])
+  pub listing-done : length rows ≤ q → (count ≡ length (paths par k rows [])) × Marks s mark (paths par k rows [])
   unfolding paths
   listing-done h = let e = along-end (front k par) rows (v .is) h in (rw (← e) (v .counts), rw (← e) (v .marks))
 
@@ -206,21 +206,21 @@ module _ {k : ℕ} {par rows mark : List ℕ} {count q : ℕ} (v : Listing k par
   listing-all h = along-end (front k par) rows (v .is) h
 
 -- the loop of `column_length`
-pub record Tallying (k : ℕ) (par rows mark₀ mark : List ℕ) (count q : ℕ) : Type 0 where
+pub record Tallying (s k : ℕ) (par rows mark₀ mark : List ℕ) (count q : ℕ) : Type 0 where
   pub asks : Walks k par mark
   pub same : length mark ≡ length mark₀
   pub fits : count ≤ q * 65536
-  pub is : Listing k par rows mark count q
+  pub is : Listing s k par rows mark count q
 
-pub tallying-start : {k : ℕ} {par : List ℕ} (rows : List ℕ) {mark : List ℕ} → Walks k par mark → Marks k mark [] → Tallying k par rows mark mark 0 0
+pub tallying-start : {s k : ℕ} {par : List ℕ} (rows : List ℕ) {mark : List ℕ} → Walks k par mark → Marks s mark [] → Tallying s k par rows mark mark 0 0
 tallying-start rows v m = record { asks = v; same = refl; fits = omega arith; is = listing-start rows m }
 
 -- a slice of marks comes back as long as it was
 pub walks-on : {k : ℕ} {par mark mark1 : List ℕ} → Walks k par mark → length mark1 ≡ length mark → Walks k par mark1
 walks-on v e = record { small = v .small; p-long = v .p-long; m-long = omega (arith, v .m-long, e); above = v .above }
 
-pub tallying-turn : {k : ℕ} {par rows mark₀ mark mark1 : List ℕ} {count q len : ℕ} → Tallying k par rows mark₀ mark count q → q < length rows → length mark1 ≡ length mark
-    → (len ≤ k + 1) × ((older : List ℕ) → Marks k mark older → Walked k par (getD rows q 0) older len mark1) → Tallying k par rows mark₀ mark1 (count + len) (q + 1)
+pub tallying-turn : {s k : ℕ} {par rows mark₀ mark mark1 : List ℕ} {count q len : ℕ} → Tallying s k par rows mark₀ mark count q → q < length rows → length mark1 ≡ length mark
+    → (len ≤ k + 1) × ((older : List ℕ) → Marks s mark older → Walked s k par (getD rows q 0) older len mark1) → Tallying s k par rows mark₀ mark1 (count + len) (q + 1)
 tallying-turn v h e w =
     record {
       asks = walks-on (v .asks) e;

@@ -3,3 +3,5 @@ pub mod Pattern
 pub mod Least
 pub mod Steps
 pub mod Backward
+pub mod Falling
+pub mod Bumps

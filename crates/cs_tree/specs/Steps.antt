@@ -36,20 +36,20 @@ pub record Walks (k : ℕ) (par mark : List ℕ) : Type 0 where
 abbrev pub way : ℕ → List ℕ → ℕ → List ℕ → List ℕ
 way k par row older = path (suc k) par k row older
 
--- that path's length, and the marks once it is listed too
-pub record Walked (k : ℕ) (par : List ℕ) (row : ℕ) (older : List ℕ) (len : ℕ) (mark : List ℕ) : Type 0 where
+-- that path's length, and the marks, by s + 1, once it is listed too
+pub record Walked (s k : ℕ) (par : List ℕ) (row : ℕ) (older : List ℕ) (len : ℕ) (mark : List ℕ) : Type 0 where
   pub is : len ≡ length (way k par row older)
-  pub marks : Marks k mark (way k par row older ++ older)
+  pub marks : Marks s mark (way k par row older ++ older)
 
 -- what `trace` asks: a list that the marks stand for, and room for the way that a row adds to it
-pub record Roomy (k : ℕ) (par : List ℕ) (row : ℕ) (mark out : List ℕ) : Type 0 where
+pub record Roomy (s k : ℕ) (par : List ℕ) (row : ℕ) (mark out : List ℕ) : Type 0 where
   pub older : List ℕ
-  pub marks : Marks k mark older
+  pub marks : Marks s mark older
   pub room : length (way k par row older) ≤ length out
 
 -- and what it leaves: the way stands in the front of out
-pub record Traced (k : ℕ) (par : List ℕ) (row : ℕ) (older : List ℕ) (len : ℕ) (mark out : List ℕ) : Type 0 where
-  pub walked : Walked k par row older len mark
+pub record Traced (s k : ℕ) (par : List ℕ) (row : ℕ) (older : List ℕ) (len : ℕ) (mark out : List ℕ) : Type 0 where
+  pub walked : Walked s k par row older len mark
   pub listed : take len out ≡ way k par row older
 
 -- how long each column is

@@ -33,3 +33,5 @@ pub mod Entries
 pub mod Positions
 pub mod Standing
 pub mod Finding
+pub mod Recounting
+pub mod Receding

@@ -10,7 +10,7 @@ use Rattle.cs_pattern.proofs.reach.column_length.Lts as lts
 use Rattle.cs_pattern.proofs.reach.walk.Reads as walk-reads
 
 abbrev Inv-loop : tie.InvT-loop
-Inv-loop k rows par mark₀ count₀ q₀ mark count q = Tallying k par rows mark₀ mark count q × (length rows ≤ 4194304)
+Inv-loop k rows par mark₀ count₀ q₀ mark count q = Tallying k k par rows mark₀ mark count q × (length rows ≤ 4194304)
 
 abbrev μ-loop : tie.MeasureT-loop
 μ-loop k rows par mark₀ count₀ q₀ mark count q = length rows - q

@@ -1,93 +1,26 @@
-use Rattle.cs_tree.proofs.Tracing.{Reaching, reaching-start, reaching-end, reaching-roomy, reaching-room, reaching-shift, reaching-turn, reaching-done}
-use lib.ListN.{length}
-use Prim.Native.Nat.{_-_}
+use Rattle.cs_tree.proofs.Tracing.{reached-whole}
 use borrow.Author.Needs.{needs}
 use Rattle.cs_pattern.proofs.reach.reach.Statement.{statement}
 use Rattle.cs_pattern.proofs.reach.reach.Tie as tie
 use Rattle.cs_pattern.proofs.reach.reach.Reads as reads
 use Rattle.cs_pattern.proofs.reach.reach.Lts as lts
-use Rattle.cs_pattern.proofs.reach.shift.Reads as shift-reads
-use Rattle.cs_pattern.proofs.reach.trace.Reads as trace-reads
+use Rattle.cs_pattern.proofs.reach.lay.Reads as lay-reads
 
-abbrev Inv-loop : tie.InvT-loop
-Inv-loop k rows par mark₀ out₀ top₀ q₀ mark out top q = Reaching k par rows mark₀ mark out₀ out top q
+-- src/reach.rt:116:5
+lay-requires : tie.Need-lay-requires
+lay-requires c κs = search needs
 
-abbrev μ-loop : tie.MeasureT-loop
-μ-loop k rows par mark₀ out₀ top₀ q₀ mark out top q = length rows - q
+-- src/reach.rt:111:1
+same-length : tie.Need-same-length
+same-length c = search needs
 
--- src/reach.rt:91:5
-loop-holds : tie.Need-loop-holds Inv-loop μ-loop
-loop-holds c = reaching-start _ _ (c .before .before .before .before .pre .0) (c .before .before .before .before .pre .1) (c .before .before .before .before .pre .2)
+-- src/reach.rt:111:1
+same-length-2 : tie.Need-same-length-2
+same-length-2 c = search needs
 
--- src/reach.rt:92:28
-mul-trace : tie.Need-mul-trace Inv-loop μ-loop
-mul-trace c = search needs
-
--- src/reach.rt:92:28
-shared-slice-read-trace : tie.Need-shared-slice-read-trace Inv-loop μ-loop
-shared-slice-read-trace c = search needs
-
--- src/reach.rt:92:48
-sub-trace : tie.Need-sub-trace Inv-loop μ-loop
-sub-trace c = search needs
-
--- src/reach.rt:92:48
-part-trace-start : tie.Need-part-trace-start Inv-loop μ-loop
-part-trace-start c = search needs
-
--- src/reach.rt:92:48
-part-trace-end : tie.Need-part-trace-end Inv-loop μ-loop
-part-trace-end c = reaching-end (c .before .before .before .loop .inv)
-
--- src/reach.rt:92:13
-trace-requires : tie.Need-trace-requires Inv-loop μ-loop
-trace-requires c κs = (c .before .before .before .before .loop .inv .asks, reaching-roomy (c .before .before .before .before .loop .inv) (c .before .before .before .loop-test .taken))
-
--- src/reach.rt:93:9
-shift-requires : tie.Need-shift-requires Inv-loop μ-loop
-shift-requires c κs = (reaching-room (c .before .before .before .before .before .before .before .before .before .before .loop .inv) (c .before .before .before .before .before .before .before .before .before .loop-test .taken) (c .before .before .before .before .before .trace .kept .1 .1 .1 .0) (c .before .before .before .before .before .trace .kept .1 .1 .1 .1 .0) (c .before .before .before .before .before .trace .ensures), reaching-shift (c .before .before .before .before .before .before .before .before .before .before .loop .inv) (c .before .before .before .before .before .before .before .before .before .loop-test .taken) (c .before .before .before .before .before .trace .kept .1 .1 .1 .0) (c .before .before .before .before .before .trace .kept .1 .1 .1 .1 .0) (c .before .before .before .before .before .trace .ensures))
-
--- src/reach.rt:94:9
-add-q : tie.Need-add-q Inv-loop μ-loop
-add-q c = search needs
-
--- src/reach.rt:91:5
-loop-less : tie.Need-loop-less Inv-loop μ-loop
-loop-less c = search needs
-
--- src/reach.rt:91:5
-loop-again : tie.Need-loop-again Inv-loop μ-loop
-loop-again c = reaching-turn (c .before .before .before .before .before .before .before .before .before .before .before .before .before .loop .inv) (c .before .before .before .before .before .before .before .before .before .before .before .before .loop-test .taken) (c .before .before .before .before .before .before .before .before .trace .kept .1 .1 .1 .0) (c .before .before .before .before .before .before .before .before .trace .kept .1 .1 .1 .1 .0) (c .before .before .before .before .before .before .before .before .trace .ensures) (c .before .before .shift .kept .1 .1 .0) (c .before .before .shift .ensures)
-
--- src/reach.rt:85:1
-same-length : tie.Need-same-length Inv-loop μ-loop
-same-length c = c .before .loop .inv .same
-
--- src/reach.rt:85:1
-same-length-2 : tie.Need-same-length-2 Inv-loop μ-loop
-same-length-2 c = c .before .loop .inv .long
-
--- src/reach.rt:85:1
-returns : tie.Need-returns Inv-loop μ-loop
-returns c = reaching-done (c .before .loop .inv) (c .loop-test .left)
+-- src/reach.rt:111:1
+returns : tie.Need-returns
+returns c = reached-whole (c .before .before .before .before .before .before .before .before .before .before .before .pre .2) (c .before .before .before .before .lay .ensures)
 
 pub reach-spec : {M : Type 1} → statement M
-reach-spec =
-    tie.close
-    (tie.spec
-    Inv-loop
-    μ-loop
-    loop-holds
-    mul-trace
-    shared-slice-read-trace
-    sub-trace
-    part-trace-start
-    part-trace-end
-    trace-requires
-    shift-requires
-    add-q
-    loop-less
-    loop-again
-    same-length
-    same-length-2
-    returns)
+reach-spec = tie.close (tie.spec lay-requires same-length same-length-2 returns)

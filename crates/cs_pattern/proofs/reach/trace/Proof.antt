@@ -9,10 +9,10 @@ use Rattle.cs_pattern.proofs.reach.trace.Lts as lts
 use Rattle.lists.proofs.numbers.wide.Reads as wide-reads
 
 abbrev Inv-loop : tie.InvT-loop
-Inv-loop k row par mark₀ out₀ stamp c₀ len₀ mark out c len = Tracing k par row mark₀ mark out₀ out c len
+Inv-loop k s row par mark₀ out₀ stamp c₀ len₀ mark out c len = Tracing s k par row mark₀ mark out₀ out c len
 
 abbrev μ-loop : tie.MeasureT-loop
-μ-loop k row par mark₀ out₀ stamp c₀ len₀ mark out c len = k + 1 - c
+μ-loop k s row par mark₀ out₀ stamp c₀ len₀ mark out c len = k + 1 - c
 
 -- src/reach.rt:36:17
 add-stamp : tie.Need-add-stamp Inv-loop μ-loop
@@ -20,7 +20,7 @@ add-stamp c = search needs
 
 -- src/reach.rt:39:5
 loop-holds : tie.Need-loop-holds Inv-loop μ-loop
-loop-holds c = tracing-start (c .before .before .before .pre .0) (c .before .before .before .pre .1)
+loop-holds c = tracing-start (c .before .before .before .pre .1) (c .before .before .before .pre .2)
 
 -- src/reach.rt:40:13
 wide-requires : tie.Need-wide-requires Inv-loop μ-loop

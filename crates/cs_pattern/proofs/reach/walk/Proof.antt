@@ -9,7 +9,7 @@ use Rattle.cs_pattern.proofs.reach.walk.Lts as lts
 use Rattle.lists.proofs.numbers.wide.Reads as wide-reads
 
 abbrev Inv-loop : tie.InvT-loop
-Inv-loop k row par mark₀ top stamp i₀ len₀ mark i len = Walk k par row mark₀ mark i len
+Inv-loop k row par mark₀ top stamp i₀ len₀ mark i len = Walk k k par row mark₀ mark i len
 
 abbrev μ-loop : tie.MeasureT-loop
 μ-loop k row par mark₀ top stamp i₀ len₀ mark i len = k + 1 - i
