@@ -1,20 +1,17 @@
--- Bytes put one behind the other: the loops of `put` and `put_rows`. Assumes nothing.
+-- Bytes put one behind the other, and the loop of `put_rows`. Assumes nothing.
 use mathlib.Core.Path.{_≡_, refl, sym, ap, _∙_}
 use mathlib.Core.List.{List, [], _∷_, _++_, append-assoc, append-nil}
-use Prim.Native.Nat.{ℕ, zero, suc, _+_, _*_, _-_, _%_, _/_, _≤_, _<_}
+use Prim.Native.Nat.{ℕ, _+_, _*_, _≤_, _<_}
 use native.Mathlib.Omega.{arith}
 use lib.Ieee.{Float, binary64, toBits}
-use lib.ListN.{length, getD, take, drop, set, length-append, length-set}
-use lib.Seq.{length-take-le}
-use Rattle.lists.proofs.Fronts.{drop-further, drop-more}
-use Rattle.lists.proofs.Parts.{left-at, left-none, written-more}
-use Rattle.job_answer.specs.Lines.{bytes, XV, NO, bytesOf, text, rows}
+use lib.ListN.{length, getD, take, drop, length-append}
+use lib.Seq.{sets, sets-eq, length-sets, length-take-le, take-at, drop-at}
+use Rattle.lists.proofs.Fronts.{drop-further}
+use Rattle.lists.proofs.Parts.{left-at, left-none}
+use Rattle.little.specs.Little.{bytes}
+use Rattle.little.proofs.Putting.{length-bytes}
+use Rattle.job_answer.specs.Lines.{XV, NO, bytesOf, text, rows}
 use Rattle.job_answer.specs.Answer.{Put}
-
-length-bytes : (k x : ℕ) → length (bytes k x) ≡ k
-unfolding bytes
-length-bytes zero x = refl
-length-bytes (suc k) x = ap suc (length-bytes k (x / 256))
 
 -- one behind the other
 then : {a b c w u : List ℕ} {at e f : ℕ} → Put a at w e b → Put b e u f c → Put a at (w ++ u) f c
@@ -25,64 +22,39 @@ then {a = a} {b = b} {w = w} {u = u} {at = at} {e = e} {f = f} p q =
       behind = q .behind ∙ drop-further e f b a (omega (arith, q .end)) (p .behind);
     }
 
--- ---- the bytes of one number
-pub record Filling (old : List ℕ) (at k x : ℕ) (out : List ℕ) (rest i : ℕ) : Type 0 where
-  pub from : at ≤ i
-  pub to : i ≤ at + k
-  pub long : length out ≡ length old
-  pub front : take i out ++ bytes (at + k - i) rest ≡ take at old ++ bytes k x
-  pub behind : drop i out ≡ drop i old
-
-pub filling-start : (old : List ℕ) (at k x : ℕ) → Filling old at k x old x at
-filling-start old at k x =
-    let e : at + k - at ≡ k = omega arith in
-    record { from = omega arith; to = omega arith; long = refl; front = rw e; behind = refl }
-
-bytes-one : (m x : ℕ) → bytes (suc m) x ≡ x % 256 ∷ bytes m (x / 256)
-unfolding bytes
-bytes-one m x = refl
-
-pub filling-turn : {old : List ℕ} {at k x : ℕ} {out : List ℕ} {rest i v : ℕ} → at + k ≤ length old → Filling old at k x out rest i → i < at + k → v ≡ rest % 256
-    → Filling old at k x (set out i v) (rest / 256) (i + 1)
-filling-turn {old = old} {at = at} {k = k} {out = out} {rest = rest} {i = i} {v = v} r w h e =
-    let m : at + k - i ≡ suc (at + k - (i + 1)) = omega arith in
-    let f = w .front in
-    let f1 = rw m at f in
+-- the bytes of one number, where there is room
+number-put : (k x at e : ℕ) {old new : List ℕ} → e ≡ at + k → e ≤ length old → new ≡ sets old at (bytes k x) → Put old at (bytes k x) e new
+number-put k x at e {old = old} h l s =
+    let w : List ℕ = take at old ++ bytes k x in
+    let b = length-bytes k x in
+    let n : length w ≡ e = omega (arith, length-append (take at old) (bytes k x), length-take-le at old (omega arith)) in
+    let r : at + length (bytes k x) ≡ e = omega arith in
+    let t = s ∙ sets-eq (bytes k x) old at (omega arith) ∙ ap (λ (j : ℕ). w ++ drop j old) r in
     record {
-      from = omega (arith, w .from);
-      to = omega arith;
-      long = length-set out i v ∙ w .long;
-      front =
-          written-more out i v (bytes (at + k - (i + 1)) (rest / 256)) (omega (arith, w .long))
-          ∙ ap (λ (y : ℕ). take i out ++ (y ∷ bytes (at + k - (i + 1)) (rest / 256))) e
-          ∙ ap (λ (l : List ℕ). take i out ++ l) (sym (bytes-one (at + k - (i + 1)) rest))
-          ∙ f1;
-      behind = drop-more out i v ∙ drop-further i (i + 1) out old (omega arith) (w .behind);
+      end = omega arith;
+      front = ap (take e) t ∙ take-at w (drop e old) e n;
+      behind = ap (drop e) t ∙ drop-at w (drop e old) e n;
     }
 
-no-bytes : (x : ℕ) → bytes 0 x ≡ []
-unfolding bytes
-no-bytes x = refl
-
-pub filling-done : {old : List ℕ} {at k x : ℕ} {out : List ℕ} {rest i : ℕ} → Filling old at k x out rest i → at + k ≤ i → Put old at (bytes k x) (at + k) out
-filling-done {old = old} {at = at} {k = k} {x = x} {out = out} {rest = rest} {i = i} w h =
-    let e : i ≡ at + k = omega (arith, w .to) in
-    let z : at + k - (at + k) ≡ 0 = omega arith in
-    let f = w .front in
-    let f1 = rw (e, z, no-bytes rest) at f in
-    let b = w .behind in
-    record { end = omega (arith, length-bytes k x); front = sym (append-nil (take (at + k) out)) ∙ f1; behind = rw e at b }
-
 -- ---- one line
-pub row-put : (row : ℕ) (x : Float) {a b c d : List ℕ} {at e f g v : ℕ} → v ≡ toBits binary64 x
-    → Put a at (bytes 2 0x5658) e b → Put b e (bytes 4 row) f c → Put c f (bytes 8 v) g d → Put a at (bytesOf (XV row x)) g d
+pub row-put : (row : ℕ) (x : Float) {a b c d : List ℕ} {at v : ℕ} → at + 14 ≤ length a
+    → b ≡ sets a at (bytes 2 0x5658) → c ≡ sets b (at + 2) (bytes 4 row) → v ≡ toBits binary64 x → d ≡ sets c (at + 6) (bytes 8 v)
+    → Put a at (bytesOf (XV row x)) (at + 14) d
 unfolding bytesOf
-row-put row x m p q r = let s = rw m at r in then p (then q s)
+row-put row x {a = a} {b = b} {at = at} {v = v} h p q m r =
+    let lb = ap length p ∙ length-sets a at (bytes 2 0x5658) in
+    let lc = ap length q ∙ length-sets b (at + 2) (bytes 4 row) in
+    let s = number-put 8 v (at + 6) (at + 14) (omega arith) (omega (arith, lb, lc)) r in
+    let s1 = rw m at s in
+    then (number-put 2 0x5658 at (at + 2) (omega arith) (omega arith) p) (then (number-put 4 row (at + 2) (at + 6) (omega arith) (omega (arith, lb)) q) s1)
 
-pub refusal-put : (number column : ℕ) {a b c d : List ℕ} {at e f g : ℕ}
-    → Put a at (bytes 2 0x4F4E) e b → Put b e (bytes 1 number) f c → Put c f (bytes 4 column) g d → Put a at (bytesOf (NO number column)) g d
+pub refusal-put : (number column : ℕ) {a b c d : List ℕ} → 7 ≤ length a
+    → b ≡ sets a 0 (bytes 2 0x4F4E) → c ≡ sets b 2 (bytes 1 number) → d ≡ sets c 3 (bytes 4 column) → Put a 0 (bytesOf (NO number column)) 7 d
 unfolding bytesOf
-refusal-put number column p q r = then p (then q r)
+refusal-put number column {a = a} {b = b} h p q r =
+    let lb = ap length p ∙ length-sets a 0 (bytes 2 0x4F4E) in
+    let lc = ap length q ∙ length-sets b 2 (bytes 1 number) in
+    then (number-put 2 0x4F4E 0 2 (omega arith) (omega arith) p) (then (number-put 1 number 2 3 (omega arith) (omega (arith, lb)) q) (number-put 4 column 3 7 (omega arith) (omega (arith, lb, lc)) r))
 
 -- ---- the rows so far
 pub record Rows (old : List ℕ) (x : List Float) (out : List ℕ) (at row : ℕ) : Type 0 where

@@ -11,7 +11,8 @@ use borrow.Author.Tests.{lt-ltb, le-ltb}
 use Rattle.lists.specs.Calls.{onto}
 use Rattle.lists.proofs.Bools.{le-or-lt, eq-or-ne}
 use Rattle.job_answer.specs.declared.Wrote.{Wrote}
-use Rattle.job_answer.specs.Lines.{bytes, NO, bytesOf, text, rows, lines}
+use Rattle.little.specs.Little.{bytes}
+use Rattle.job_answer.specs.Lines.{NO, bytesOf, text, rows, lines}
 use Rattle.job_answer.specs.Answer.{wrote, answer, leaves, Put}
 use Rattle.job_answer.proofs.Putting.{length-rows}
 

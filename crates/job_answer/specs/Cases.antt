@@ -2,7 +2,8 @@
 use mathlib.Core.Path.{_≡_, refl}
 use mathlib.Core.List.{[], _∷_}
 use lib.Ieee.{binary64, toBits, ofBits}
-use Rattle.job_answer.specs.Lines.{bytes, bytesOf, text, rows, lines}
+use Rattle.little.specs.Little.{bytes}
+use Rattle.job_answer.specs.Lines.{bytesOf, text, rows, lines}
 
 whole-output : text (lines 0 0 (ofBits binary64 0x3FE0_0000_0000_0000 ∷ [])) ≡ 0x58 ∷ 0x56 ∷ 0 ∷ 0 ∷ 0 ∷ 0 ∷ 0 ∷ 0 ∷ 0 ∷ 0 ∷ 0 ∷ 0 ∷ 0xE0 ∷ 0x3F ∷ []
 unfolding text lines rows bytesOf bytes toBits ofBits

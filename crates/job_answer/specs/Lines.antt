@@ -1,12 +1,8 @@
 -- What the program writes: document 01, "Job file": for each row XV row, value; or only NO number, column. Assumes nothing.
 use mathlib.Core.List.{List, [], _∷_, _++_}
-use Prim.Native.Nat.{ℕ, zero, suc, _+_, _%_, _/_}
+use Prim.Native.Nat.{ℕ, zero, suc, _+_}
 use lib.Ieee.{Float, binary64, toBits}
-
--- the k bytes of x, the lowest first
-unfoldable pub bytes : ℕ → ℕ → List ℕ
-bytes zero x = []
-bytes (suc k) x = x % 256 ∷ bytes k (x / 256)
+use Rattle.little.specs.Little.{bytes}
 
 pub data Line : Type 0 where
   XV : (row : ℕ) (value : Float) → Line

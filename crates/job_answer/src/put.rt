@@ -1,42 +1,21 @@
 // Bytes put into a slice, line by line.
 ghost use mathlib.Core.Path.{_≡_};
-ghost use mathlib.Core.List.{[], _∷_};
-ghost use Prim.Native.Nat.{_+_, _*_, _≤_, _<_};
+ghost use Prim.Native.Nat.{_+_, _*_, _≤_};
 ghost use lib.ListN.{length};
-ghost use Rattle.job_answer.specs.Lines.{bytes, bytesOf, XV, NO, text, rows};
+ghost use Rattle.job_answer.specs.Lines.{bytesOf, XV, NO, text, rows};
 ghost use Rattle.job_answer.specs.Answer.{Put};
-
-fn low(x: u64) -> u8
-    requires { ⌜ x < 256 ⌝ }
-    ensures { λ r. ⌜ r ≡ x ⌝ }
-{
-    x as u8
-}
-
-// The k bytes of x at a place of out; the place behind them.
-fn put(out: &mut [u8], at: usize, k: usize, x: u64) -> usize
-    requires { ⌜ at + k ≤ length (now out) ⌝ }
-    ensures { λ e. ⌜ (e ≡ at + k) × Put (now (out .entry)) at (bytes k x) e (now (out .exit)) ⌝ }
-{
-    let end = at + k;
-    let mut rest = x;
-    let mut i = at;
-    while i < end {
-        out[i] = low(rest % 256);
-        rest = rest / 256;
-        i += 1;
-    }
-    end
-}
+use float_bits::bits_of;
+use little::put;
 
 // XV row, value.
 fn put_row(out: &mut [u8], at: usize, row: u64, x: f64) -> usize
     requires { ⌜ at + 14 ≤ length (now out) ⌝ }
     ensures { λ e. ⌜ (e ≡ at + 14) × Put (now (out .entry)) at (bytesOf (XV row x)) e (now (out .exit)) ⌝ }
 {
-    let a = put(out, at, 2, 0x5658);
-    let b = put(out, a, 4, row);
-    put(out, b, 8, float_bits::bits_of(x))
+    put(0x5658, 2, at, out);
+    put(row, 4, at + 2, out);
+    put(bits_of(x), 8, at + 6, out);
+    at + 14
 }
 
 // NO number, column.
@@ -44,9 +23,10 @@ pub fn put_refusal(out: &mut [u8], number: u64, column: u64) -> usize
     requires { ⌜ 7 ≤ length (now out) ⌝ }
     ensures { λ e. ⌜ (e ≡ 7) × Put (now (out .entry)) 0 (bytesOf (NO number column)) e (now (out .exit)) ⌝ }
 {
-    let a = put(out, 0, 2, 0x4F4E);
-    let b = put(out, a, 1, number);
-    put(out, b, 4, column)
+    put(0x4F4E, 2, 0, out);
+    put(number, 1, 2, out);
+    put(column, 4, 3, out);
+    7
 }
 
 fn index(k: usize) -> u64

@@ -1,5 +1,5 @@
 -- `put_refusal` meets its contract. Assumes nothing.
-use native.Mathlib.Omega.{arith}
+use mathlib.Core.Path.{refl}
 use Rattle.job_answer.proofs.Putting.{refusal-put}
 use borrow.Author.Needs.{needs}
 use Rattle.job_answer.proofs.put.put_refusal.Statement.{statement}
@@ -18,7 +18,7 @@ same-length : tie.Need-same-length
 same-length c = search needs
 
 returns : tie.Need-returns
-returns c = (omega arith, refusal-put (c .before .before .before .before .before .before .before .before .before .before .before .before .before .args .number) (c .before .before .before .before .before .before .before .before .before .before .before .before .before .args .column) (c .before .before .before .before .before .before .before .before .before .before .put .ensures .1) (c .before .before .before .before .before .before .put2 .ensures .1) (c .before .before .put3 .ensures .1))
+returns c = (refl, refusal-put (c .before .before .before .before .before .before .before .before .before .before .before .before .before .args .number) (c .before .before .before .before .before .before .before .before .before .before .before .before .before .args .column) (c .before .before .before .before .before .before .before .before .before .before .before .before .before .pre) (c .before .before .before .before .before .before .before .before .before .before .put .ensures) (c .before .before .before .before .before .before .put2 .ensures) (c .before .before .put3 .ensures))
 
 pub put-refusal-spec : {M : Type 1} → statement M
 put-refusal-spec =
