@@ -1,4 +1,3 @@
-pub mod Numbers
 pub mod Telling
 pub mod Seeking
 pub mod Meaning

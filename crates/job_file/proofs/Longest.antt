@@ -8,7 +8,8 @@ use lib.ListN.{length, take, drop, length-append, length-drop}
 use lib.Seq.{length-take-le, take-all, take-nil}
 use borrow.Author.Tests.{le-leb}
 use Rattle.lists.proofs.Bools.{le-or-lt, eq-or-ne}
-use Rattle.job_file.specs.Little.{little}
+use Rattle.little.specs.Little.{little}
+use Rattle.little.proofs.Reading.{little-take}
 use Rattle.job_file.specs.Records.{Record, SZ, EN, RH, GO, Wrong, size, begins, first, records}
 use Rattle.job_file.specs.Faults.{Job, fault}
 use Rattle.job_file.specs.Reading.{empty, withEntry, taken, reads, readFile}
@@ -17,13 +18,6 @@ use Rattle.job_file.proofs.Meaning.{sz-means, en-means, rh-means, go-me
 use Rattle.job_file.proofs.Walking.{one-by-one, some, reads-on, reads-stop}
 
 -- ---- the first record of a front that has room for any record
-little-take : (k m : ℕ) (l : List ℕ) → k ≤ m → little k (take m l) ≡ little k l
-unfolding little
-little-take zero m l h = refl
-little-take (suc k) zero l h = absurd (omega arith)
-little-take (suc k) (suc m) [] h = refl
-little-take (suc k) (suc m) (b ∷ l) h = ap (λ (x : ℕ). b + 256 * x) (little-take k m l (omega arith))
-
 field : (d k m : ℕ) (l : List ℕ) → d + k ≤ m → little k (drop d (take m l)) ≡ little k (drop d l)
 field d k m l h = ap (little k) (drop-take d m l) ∙ little-take k (m - d) (drop d l) (omega arith)
 

@@ -9,7 +9,7 @@ use lib.ListN.{length, drop, length-drop}
 use lib.Seq.{drop-drop}
 use borrow.Author.Tests.{le-leb, lt-leb, eq-eqb, ne-eqb}
 use Rattle.lists.proofs.Bools.{and-false}
-use Rattle.job_file.specs.Little.{little}
+use Rattle.little.specs.Little.{little}
 use Rattle.job_file.specs.Records.{SZ, EN, RH, GO, Wrong, first, begins}
 
 -- where a record with this mark begins, and where none does: another mark, or too few bytes

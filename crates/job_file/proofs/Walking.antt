@@ -9,7 +9,7 @@ use lib.ListN.{length, drop, length-drop}
 use lib.Seq.{drop-drop}
 use borrow.Author.Tests.{eq-eqb, ne-eqb, leb-true}
 use Rattle.lists.proofs.Bools.{and-true}
-use Rattle.job_file.specs.Little.{little}
+use Rattle.little.specs.Little.{little}
 use Rattle.job_file.specs.Records.{Record, SZ, EN, RH, GO, Wrong, size, begins, first, recordsPast, records}
 use Rattle.job_file.specs.Faults.{Job, fault, atEnd}
 use Rattle.job_file.specs.Reading.{Outcome, taken, reads}

@@ -4,7 +4,7 @@ use mathlib.Core.List.{List, [], _∷_, _++_, map}
 use Prim.Native.Nat.{ℕ}
 use lib.Ieee.{binary64, toBits, ofBits}
 use lib.ListN.{take}
-use Rattle.job_file.specs.Little.{little}
+use Rattle.little.specs.Little.{little}
 use Rattle.job_file.specs.Records.{first, begins, size, records, recordsPast}
 use Rattle.job_file.specs.Faults.{fault, turn, malformed, oversized, outside, fallen, repeated, complete, given, atEnd}
 use Rattle.job_file.specs.Reading.{Outcome, readFile, reads, taken, withEntry}

@@ -1,4 +1,3 @@
-pub mod Little
 pub mod Records
 pub mod Faults
 pub mod Reading

@@ -5,7 +5,7 @@ use mathlib.Core.List.{List, [], _∷_}
 use Prim.Native.Nat.{ℕ, zero, suc, _-_}
 use lib.Dec.{leb, eqb}
 use lib.ListN.{length, drop}
-use Rattle.job_file.specs.Little.{little}
+use Rattle.little.specs.Little.{little}
 
 pub data Record : Type 0 where
   SZ : (n count : ℕ) → Record

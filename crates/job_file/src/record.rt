@@ -4,10 +4,10 @@ ghost use Prim.Native.Nat.{_≤_};
 ghost use lib.ListN.{length, drop};
 ghost use Rattle.job_file.specs.Records.{first, size};
 ghost use Rattle.job_file.specs.Told.{told};
-use crate::little::u8_at;
-use crate::little::u16_at;
-use crate::little::u32_at;
-use crate::little::u64_at;
+use little::u8_at;
+use little::u16_at;
+use little::u32_at;
+use little::u64_at;
 
 // The two letters of each mark, the first one low.
 const SZ: u32 = 0x5A53;

@@ -1,9 +1,9 @@
--- Little-endian numbers by their halves, and past the end. Assumes nothing.
+-- Little-endian numbers by their halves, in a front, and past the end. Assumes nothing.
 use mathlib.Core.Path.{_≡_, refl, sym, ap, _∙_}
 use mathlib.Core.List.{List, [], _∷_}
 use Prim.Native.Nat.{ℕ, zero, suc, _+_, _*_, _≤_, _<_}
 use native.Mathlib.Omega.{arith}
-use lib.ListN.{length, getD, drop, drop-of-length-le}
+use lib.ListN.{length, getD, take, drop, drop-of-length-le}
 use lib.Seq.{drop-cons, drop-drop}
 use Rattle.little.specs.Little.{little}
 
@@ -19,6 +19,14 @@ past k s at h = sym (ap (little k) (drop-of-length-le s h) ∙ nothing k)
 pub byte-is : (s : List ℕ) (at : ℕ) {a : ℕ} → at < length s → a ≡ getD s at 0 → a ≡ little 1 (drop at s)
 unfolding little
 byte-is s at h e = rw (drop-cons s at 0 h) (omega arith)
+
+-- in a front that holds its bytes
+pub little-take : (k m : ℕ) (l : List ℕ) → k ≤ m → little k (take m l) ≡ little k l
+unfolding little
+little-take zero m l h = refl
+little-take (suc k) zero l h = absurd (omega arith)
+little-take (suc k) (suc m) [] h = refl
+little-take (suc k) (suc m) (b ∷ l) h = ap (λ (x : ℕ). b + 256 * x) (little-take k m l (omega arith))
 
 -- ---- a number by its halves
 two : (s : List ℕ) → little 2 s ≡ little 1 s + 256 * little 1 (drop 1 s)

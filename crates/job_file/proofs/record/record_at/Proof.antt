@@ -81,7 +81,7 @@ returns-7 : tie.Need-returns-7
 returns-7 c = is-RH (now (c .before .before .before .before .before .before .before .args .s)) (c .before .before .before .before .before .before .before .args .at) (c .before .before .before .before .u16-at .ensures .0) (c .before .before .before .match .keys3) (c .before .before .if4 .left) (c .before .u32-at5 .ensures) (c .u64-at2 .ensures)
 
 returns-8 : tie.Need-returns-8
-returns-8 c = is-GO (now (c .before .before .before .before .before .args .s)) (c .before .before .before .before .before .args .at) (c .before .before .u16-at .ensures .0) (c .before .match .keys4) (c .before .before .before .if1 .left) (c .u8-at .ensures)
+returns-8 c = is-GO (now (c .before .before .before .before .before .args .s)) (c .before .before .before .before .before .args .at) (c .before .before .u16-at .ensures .0) (c .before .match .keys4) (c .before .before .before .if1 .left) (c .u8-at .ensures .0)
 
 returns-9 : tie.Need-returns-9
 returns-9 c = wrong-mark (now (c .before .before .before .before .args .s)) (c .before .before .before .before .args .at) (c .before .u16-at .ensures .0) (c .match .rest .0 .0 .0 .1) (c .match .rest .0 .0 .1) (c .match .rest .0 .1) (c .match .rest .1)
