@@ -1,18 +1,27 @@
--- The bytes of a number: how many they are, and the loop of `put`. Assumes nothing.
+-- The bytes of a number: how many they are, a slice that they fill, and the loop of `put`. Assumes nothing.
 use mathlib.Core.Path.{_≡_, refl, sym, ap, _∙_}
-use mathlib.Core.List.{List, [], _∷_}
+use mathlib.Core.List.{List, [], _∷_, _++_, append-nil}
 use mathlib.Core.Logic.{_⊎_, ⊎-elim}
 use Prim.Native.Nat.{ℕ, zero, suc, _+_, _-_, _%_, _/_, _≤_, _<_}
 use native.Mathlib.Numerals.{add-one}
 use native.Mathlib.Omega.{arith}
-use lib.ListN.{length, set, length-set}
-use lib.Seq.{sets, set-out}
+use lib.ListN.{length, set, length-set, drop-of-length-le}
+use lib.Seq.{sets, sets-eq, set-out}
 use Rattle.little.specs.Little.{bytes}
 
 pub length-bytes : (k x : ℕ) → length (bytes k x) ≡ k
 unfolding bytes
 length-bytes zero x = refl
 length-bytes (suc k) x = ap suc (length-bytes k (x / 256))
+
+-- a slice of k places holds the k bytes and nothing else
+pub all-put : (k x : ℕ) (old : List ℕ) → length old ≡ k → sets old 0 (bytes k x) ≡ bytes k x
+all-put k x old h =
+    let n = length-bytes k x in
+    let e : length old ≤ 0 + length (bytes k x) = omega arith in
+    sets-eq (bytes k x) old 0 (omega arith)
+    ∙ ap (λ (l : List ℕ). bytes k x ++ l) (drop-of-length-le old e)
+    ∙ append-nil (bytes k x)
 
 no-bytes : (x : ℕ) → bytes 0 x ≡ []
 unfolding bytes
