@@ -39,9 +39,6 @@ module _ {n : ℕ} {p i : List ℕ} (v : ValidPattern (pattern n n p i)) where
   pub inside : {k : ℕ} → k < n → k < length C
   inside h = omega (arith, columns-long)
 
-  pub few-columns : length C ≤ n
-  few-columns = omega (arith, columns-long)
-
   pub outside : {k : ℕ} → n ≤ k → length C ≤ k
   outside h = omega (arith, columns-long)
 

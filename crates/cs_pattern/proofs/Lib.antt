@@ -4,7 +4,6 @@ pub mod Filled
 pub mod Promising
 pub mod Analysing
 pub mod Matching
-pub mod Comparing
 pub mod Finding
 pub mod Deciding
 pub mod Judging

@@ -1,15 +1,14 @@
 -- Whether a slice starts with a list: by places, by parts, and the loop that tells. Assumes nothing.
-use mathlib.Core.Path.{_≡_, refl, sym, ap, _∙_}
+use mathlib.Core.Path.{_≡_, refl, sym, ap}
 use mathlib.Core.Bool.{Bool, true, false, _&&_, true≢false}
 use mathlib.Core.List.{List, [], _∷_, _++_}
-use mathlib.Core.Logic.{⊎-elim}
 use Prim.Native.Nat.{ℕ, zero, suc, _+_, _-_, _≤_, _<_}
 use native.Mathlib.Omega.{arith}
 use lib.Dec.{eqb}
-use lib.ListN.{length, getD, take, drop}
-use borrow.Author.Tests.{eq-eqb, ne-eqb, eqb-true}
+use lib.ListN.{length, getD, take}
+use borrow.Author.Tests.{eq-eqb, eqb-true}
 use Rattle.lists.specs.Folds.{every}
-use Rattle.lists.proofs.Bools.{and-true, not-both}
+use Rattle.lists.proofs.Bools.{and-true}
 use Rattle.lists.proofs.Folds.{every-all, every-at}
 use Rattle.cs_pattern.specs.Compare.{startsWith}
 
@@ -68,17 +67,6 @@ starts-not xs l k h n = go (startsWith xs l) refl
   where
     go : (b : Bool) → startsWith xs l ≡ b → false ≡ b
     go true e = absurd (n (starts-at xs l e k h))
-    go false e = refl
-
--- one list behind another
-pub starts-append : (xs ys l : List ℕ) → startsWith (xs ++ ys) l ≡ (startsWith xs l && startsWith ys (drop (length xs) l))
-unfolding startsWith
-starts-append [] ys l = refl
-starts-append (x ∷ xs) ys [] = refl
-starts-append (x ∷ xs) ys (y ∷ l) = go (eqb x y) (starts-append xs ys l)
-  where
-    go : (b : Bool) → startsWith (xs ++ ys) l ≡ (startsWith xs l && startsWith ys (drop (length xs) l)) → (b && startsWith (xs ++ ys) l) ≡ ((b && startsWith xs l) && startsWith ys (drop (length xs) l))
-    go true e = e
     go false e = refl
 
 -- what stands behind does not matter

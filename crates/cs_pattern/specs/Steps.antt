@@ -9,6 +9,7 @@ use Rattle.lists.specs.Keys.{byKey}
 use Rattle.lists.specs.Parts.{part}
 use Rattle.lists.specs.Keeping.{Kept}
 use Rattle.lists.specs.Sums.{counted}
+use Rattle.cs_tree.specs.Backward.{Holds}
 use Rattle.cs_tree.specs.Pattern.{upper, lower, entries, Analysis}
 use Rattle.cs_tree.specs.Steps.{lengths, Spread, Put}
 use Rattle.cs_tree.specs.Tree.{tree}
@@ -45,25 +46,8 @@ pub record Ready (cols : List (List ℕ)) (n t : ℕ) (w1 w2 w3 : List ℕ) (out
   pub lp-room : n + 1 ≤ length (out .lp)
   pub li-room : t ≤ length (out .li)
 
--- a column of L was looked at: it agrees, or a place differs from what belongs there; either way `next` has gone on
-pub record Looked {k : ℕ} {rows next li : List ℕ} (s : Spread k rows next li) (r : Bool) (next1 li1 : List ℕ) : Type 0 where
-  pub agrees : r ≡ true → Put k rows next li s next1 li1 (length rows)
-  pub differs : r ≡ false → false ≡ startsWith (byKey (s .n) (s .keys) (s .xs)) li1
-  pub kept : Kept 0 (s .n) (s .next₀) next1
-
--- the lengths of n columns, in the front of a slice
-pub record Counts (n : ℕ) (counts : List ℕ) : Type 0 where
-  pub us : List (List ℕ)
-  pub size : length us ≡ n
-  pub few : entries us ≤ 4194304
-  pub room : n + 1 ≤ length counts
-  pub are : take (n + 1) counts ≡ lengths us ++ (0 ∷ [])
-
--- what the comparison starts from
-pub record Fresh (cols : List (List ℕ)) (n t : ℕ) (w1 w2 w3 : List ℕ) : Type 0 where
-  pub tree-is : part 0 n w1 ≡ tree cols
-  pub w1-long : n + 1 ≤ length w1
-  pub w2-long : n + 1 ≤ length w2
-  pub w3-long : n + 1 ≤ length w3
-  pub count : t ≡ min (entries (upper cols)) 4194305
-  pub lengths-are : t ≤ 4194304 → take (n + 1) w3 ≡ lengths (upper cols) ++ (0 ∷ [])
+-- the tree and U are held, and U has no more than 4,194,304 entries
+pub record Known (cols : List (List ℕ)) (tr up ui : List ℕ) : Type 0 where
+  pub tree-same : startsWith (tree cols) tr ≡ true
+  pub holds : Holds cols up ui
+  pub few : entries (upper cols) ≤ 4194304

@@ -1,16 +1,18 @@
 // Whether slices hold L, told without counting its columns: each entry of U is looked for at the next place of its row, from the
-// pointers that are held. A yes is sure; a no tells nothing.
-ghost use mathlib.Core.Bool.{true, _&&_};
+// pointers that are held.
+ghost use mathlib.Core.Bool.{true, false, _&&_};
 ghost use mathlib.Core.List.{List, flatten};
 ghost use mathlib.Core.Path.{_≡_};
 ghost use Prim.Native.Nat.{ℕ, _+_, _≤_, _<_};
 ghost use lib.ListN.{length, getD};
 ghost use Rattle.lists.proofs.Standing.{Standing};
 ghost use Rattle.lists.specs.Keeping.{Kept};
+ghost use Rattle.lists.specs.Keys.{byKey};
 ghost use Rattle.cs_tree.specs.Backward.{Stood};
 ghost use Rattle.cs_tree.specs.Pattern.{transposed, starts, entries};
-ghost use Rattle.cs_tree.specs.Steps.{Whole, numbers};
+ghost use Rattle.cs_tree.specs.Steps.{Whole, Spread, Spreads, numbers};
 ghost use Rattle.cs_pattern.specs.Compare.{startsWith};
+ghost use Rattle.cs_pattern.specs.Steps.{Looked};
 use crate::fill::copy;
 use crate::same::same;
 use lists::numbers::wide;
@@ -18,7 +20,8 @@ use lists::numbers::wide;
 // Each of the rows has k at its next place.
 fn look_column(k: u32, rows: &[u32], next: &mut [u32], li: &[u32]) -> bool
     requires { ⌜ (length (now li) ≤ 4194304) × ((m : ℕ) → m < length (now rows) → getD (now rows) m 0 < length (now next)) ⌝ }
-    ensures { λ r. ⌜ (r ≡ true → Stood k (now (rows .entry)) (now (li .entry)) (now (next .entry)) (now (next .exit)) (length (now (rows .entry)))) ⌝ }
+    ensures { λ r. ⌜ (r ≡ true → Stood k (now (rows .entry)) (now (li .entry)) (now (next .entry)) (now (next .exit)) (length (now (rows .entry))))
+        × ((s : Spread k (now (rows .entry)) (now (next .entry)) (now (li .entry))) → Looked s r (now (next .exit)) (now (li .entry))) ⌝ }
 {
     let mut q = 0;
     while q < rows.len() {
@@ -41,7 +44,9 @@ fn look_columns(n: usize, up: &[u32], ui: &[u32], next: &mut [u32], li: &[u32]) 
     requires { ⌜ Whole n (length (now li)) (now up) (now ui) × (length (now next) ≡ n) ⌝ }
     ensures { λ r. ⌜ (r ≡ true → (w : Whole n (length (now (li .entry))) (now (up .entry)) (now (ui .entry))) (held : List ℕ)
         → Standing 0 n (flatten (w .us)) (numbers 0 (w .us)) held (now (li .entry)) (now (next .entry)) 0
-        → Standing 0 n (flatten (w .us)) (numbers 0 (w .us)) held (now (li .entry)) (now (next .exit)) (entries (w .us))) ⌝ }
+        → Standing 0 n (flatten (w .us)) (numbers 0 (w .us)) held (now (li .entry)) (now (next .exit)) (entries (w .us)))
+        × (r ≡ false → (s : Spreads n (now (up .entry)) (now (ui .entry)) (now (next .entry)) (now (li .entry)))
+        → false ≡ startsWith (byKey n (flatten (s .us)) (numbers 0 (s .us))) (now (li .entry))) ⌝ }
 {
     let mut k = 0;
     while k < n {
@@ -66,8 +71,8 @@ pub fn look(
     w: &mut [u32],
 ) -> bool
     requires { ⌜ Whole n t (now up) (now ui) × (n ≤ length (now w)) ⌝ }
-    ensures { λ r. ⌜ (r ≡ true → (u : Whole n t (now (up .entry)) (now (ui .entry)))
-        → (startsWith (starts 0 (transposed (u .us))) (now (lp .entry)) && startsWith (flatten (transposed (u .us))) (now (li .entry))) ≡ true)
+    ensures { λ r. ⌜ ((u : Whole n t (now (up .entry)) (now (ui .entry)))
+        → r ≡ (startsWith (starts 0 (transposed (u .us))) (now (lp .entry)) && startsWith (flatten (transposed (u .us))) (now (li .entry))))
         × Kept 0 n (now (w .entry)) (now (w .exit)) ⌝ }
 {
     if lp.len() <= n {

@@ -1,19 +1,19 @@
 // Whether slices hold the tree and U, told without working a column out: each way up the tree is read from its far end down to
-// its stored row. A yes is sure; a no tells nothing, and the comparison column by column has to decide.
+// its stored row.
 ghost use mathlib.Core.Bool.{true};
 ghost use mathlib.Core.List.{List, []};
 ghost use mathlib.Core.Path.{_≡_};
-ghost use Prim.Native.Nat.{ℕ, _+_, _≤_, _<_, _^_};
+ghost use Prim.Native.Nat.{ℕ, suc, _+_, _≤_, _<_, _^_};
 ghost use lib.ListN.{length, getD};
 ghost use Rattle.lists.specs.Keeping.{Kept};
 ghost use Rattle.lists.specs.Order.{rises};
 ghost use Rattle.cs_matrix.specs.Matrix.{pattern, ValidPattern};
 ghost use Rattle.cs_tree.specs.Backward.{Stops, Read, Holds};
-ghost use Rattle.cs_tree.specs.Pattern.{paths, entries};
+ghost use Rattle.cs_tree.specs.Ending.{Unlisted, Ending};
+ghost use Rattle.cs_tree.specs.Pattern.{path, paths};
 ghost use Rattle.cs_tree.specs.Steps.{Walks, Marks, Given, Zeros};
-ghost use Rattle.cs_tree.specs.Tree.{tree as treeOf};
 ghost use Rattle.cs_pattern.specs.Columns.{columns};
-ghost use Rattle.cs_pattern.specs.Compare.{startsWith};
+ghost use Rattle.cs_pattern.specs.Steps.{Known};
 use crate::same::same;
 use crate::tree::elimination_tree;
 use lists::clear::clear;
@@ -24,7 +24,8 @@ const MOST: usize = 4194304;
 // A way up the tree goes no further than c: its parent is past k or listed.
 fn stops(k: u32, c: u32, par: &[u32], mark: &[u32]) -> bool
     requires { ⌜ Walks k (now par) (now mark) ⌝ }
-    ensures { λ r. ⌜ (r ≡ true → Stops k (now (par .entry)) (now (mark .entry)) c) ⌝ }
+    ensures { λ r. ⌜ (r ≡ true → Stops k (now (par .entry)) (now (mark .entry)) c)
+        × ((older : List ℕ) → Marks k (now (mark .entry)) older → c ≤ k → path (suc k) (now (par .entry)) k (getD (now (par .entry)) c 0) older ≡ [] → r ≡ true) ⌝ }
 {
     if c > k {
         return false;
@@ -36,11 +37,13 @@ fn stops(k: u32, c: u32, par: &[u32], mark: &[u32]) -> bool
     mark[wide(above)] == k + 1
 }
 
-// Reads the way from a row, where held ends with it, and marks it. The answer is where it starts, or a place past the end.
+// Reads the way from a row that is not listed, where held ends with it, and marks it. The answer is where it starts, or a place
+// past the end.
 fn descend(k: u32, row: u32, par: &[u32], mark: &mut [u32], held: &[u32]) -> usize
-    requires { ⌜ Walks k (now par) (now mark) × (length (now held) < 2 ^ 32) ⌝ }
+    requires { ⌜ Walks k (now par) (now mark) × (length (now held) < 2 ^ 32) × Unlisted k (now mark) row ⌝ }
     ensures { λ r. ⌜ ((older : List ℕ) → Marks k (now (mark .entry)) older → r ≤ length (now (held .entry))
-        → Read k (now (par .entry)) row older (now (held .entry)) r (now (mark .exit))) ⌝ }
+        → Read k (now (par .entry)) row older (now (held .entry)) r (now (mark .exit)))
+        × ((older : List ℕ) → Marks k (now (mark .entry)) older → (m : ℕ) → Ending k (now (par .entry)) row older (now (held .entry)) m → r ≤ length (now (held .entry))) ⌝ }
 {
     let mut t = held.len();
     let none = t + 1;
@@ -78,7 +81,8 @@ fn descend(k: u32, row: u32, par: &[u32], mark: &mut [u32], held: &[u32]) -> usi
 fn read_row(k: u32, row: u32, par: &[u32], mark: &mut [u32], held: &[u32]) -> usize
     requires { ⌜ Walks k (now par) (now mark) × (length (now held) < 2 ^ 32) × (row ≤ k) ⌝ }
     ensures { λ r. ⌜ ((older : List ℕ) → Marks k (now (mark .entry)) older → r ≤ length (now (held .entry))
-        → Read k (now (par .entry)) row older (now (held .entry)) r (now (mark .exit))) ⌝ }
+        → Read k (now (par .entry)) row older (now (held .entry)) r (now (mark .exit)))
+        × ((older : List ℕ) → Marks k (now (mark .entry)) older → (m : ℕ) → Ending k (now (par .entry)) row older (now (held .entry)) m → r ≤ length (now (held .entry))) ⌝ }
 {
     if mark[wide(row)] == k + 1 {
         return held.len();
@@ -89,7 +93,8 @@ fn read_row(k: u32, row: u32, par: &[u32], mark: &mut [u32], held: &[u32]) -> us
 // Column k of U is what is held. The rows rise, so that the first past k ends them.
 fn read_column(k: u32, rows: &[u32], par: &[u32], mark: &mut [u32], held: &[u32]) -> bool
     requires { ⌜ Walks k (now par) (now mark) × Marks k (now mark) [] × (length (now held) < 2 ^ 32) × (rises (now rows) ≡ true) ⌝ }
-    ensures { λ r. ⌜ (r ≡ true → (now (held .entry) ≡ paths (now (par .entry)) k (now (rows .entry)) []) × Marks k (now (mark .exit)) (now (held .entry))) ⌝ }
+    ensures { λ r. ⌜ (r ≡ true → (now (held .entry) ≡ paths (now (par .entry)) k (now (rows .entry)) []) × Marks k (now (mark .exit)) (now (held .entry)))
+        × (now (held .entry) ≡ paths (now (par .entry)) k (now (rows .entry)) [] → r ≡ true) ⌝ }
 {
     let mut top = held.len();
     let mut q = 0;
@@ -120,7 +125,8 @@ fn read_columns(
 ) -> bool
     requires { ⌜ (let cols = columns (pattern n n (now p) (now i)) in
         ValidPattern (pattern n n (now p) (now i)) × Given cols (now par) × (length (now mark) ≡ n) × Zeros (now mark) × (n < length (now up))) ⌝ }
-    ensures { λ r. ⌜ (r ≡ true → Holds (columns (pattern n n (now (p .entry)) (now (i .entry)))) (now (up .entry)) (now (ui .entry))) ⌝ }
+    ensures { λ r. ⌜ (let cols = columns (pattern n n (now (p .entry)) (now (i .entry))) in
+        (r ≡ true → Holds cols (now (up .entry)) (now (ui .entry))) × (Holds cols (now (up .entry)) (now (ui .entry)) → r ≡ true)) ⌝ }
 {
     if up[0] != 0 {
         return false;
@@ -158,7 +164,7 @@ pub fn read_upper(
 ) -> bool
     requires { ⌜ ValidPattern (pattern n n (now p) (now i)) × (n ≤ length (now w1)) × (n ≤ length (now w2)) ⌝ }
     ensures { λ r. ⌜ (let cols = columns (pattern n n (now (p .entry)) (now (i .entry))) in
-        (r ≡ true → (startsWith (treeOf cols) (now (tree .entry)) ≡ true) × Holds cols (now (up .entry)) (now (ui .entry)) × (getD (now (up .entry)) n 0 ≤ 4194304))
+        (r ≡ true → Known cols (now (tree .entry)) (now (up .entry)) (now (ui .entry))) × (Known cols (now (tree .entry)) (now (up .entry)) (now (ui .entry)) → r ≡ true)
         × Kept 0 n (now (w1 .entry)) (now (w1 .exit)) × Kept 0 n (now (w2 .entry)) (now (w2 .exit))) ⌝ }
 {
     if up.len() <= n {

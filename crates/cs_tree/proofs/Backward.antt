@@ -113,13 +113,10 @@ module _ {k : ℕ} {par held mark₀ mark : List ℕ} {above t b j : ℕ} (v : D
 pub not-read : {k : ℕ} {par : List ℕ} {row : ℕ} {held mark₀ mark : List ℕ} {r : ℕ} → length held < r → (older : List ℕ) → Marks k mark₀ older → r ≤ length held → Read k par row older held r mark
 not-read h older m l = absurd (omega arith)
 
--- ---- `read_row`: a row below the diagonal, or listed already
+-- ---- `read_row`: a row that is listed already
 module _ {k : ℕ} {par : List ℕ} {row : ℕ} {held mark : List ℕ} where
   nothing : (older : List ℕ) → Marks k mark older → way k par row older ≡ [] → Read k par row older held (length held) mark
   nothing older m e = let n : drop (length held) held ≡ [] = drop-length held in record { is = rw n e; marks = rw n m }
-
-  pub read-below : k < row → (older : List ℕ) → Marks k mark older → length held ≤ length held → Read k par row older held (length held) mark
-  read-below h older m l = nothing older m (path-over (suc k) par k row older h)
 
   pub read-listed : {j : ℕ} → Walks k par mark → row ≤ k → j ≡ row → getD mark j 0 ≡ k + 1 → (older : List ℕ) → Marks k mark older → length held ≤ length held → Read k par row older held (length held) mark
   read-listed {j = j} w h i s older m l =

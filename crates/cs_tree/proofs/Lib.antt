@@ -25,3 +25,4 @@ pub mod Looking
 pub mod Past
 pub mod Bumping
 pub mod Falling
+pub mod Aiming

@@ -55,10 +55,6 @@ module _ {k : ℕ} {rows next₀ li₀ next li : List ℕ} {q : ℕ} (v : Going 
   pub going-holds : (s : Spread k rows next₀ li₀) → getD (byKey (s .n) (s .keys) (s .xs)) (getD next j 0) 0 ≡ k
   going-holds s = (rw (row s) at (next-holds (v s) (inside s))) ∙ s .numbered q h
 
-  -- no more than n places of `next` have changed
-  pub going-kept : (s : Spread k rows next₀ li₀) → Kept 0 (s .n) (s .next₀) next
-  going-kept s = record { long = v s .w-same; rest = v s .w-rest }
-
   pub going-turn : {t : ℕ} → t ≡ getD next j 0 → Going k rows next₀ li₀ (set next j (getD next j 0 + 1)) (set li t k) (q + 1)
   going-turn e s = rw e (turned s)
 
@@ -141,6 +137,6 @@ module _ {n : ℕ} {up ui next₀ li₀ next li : List ℕ} {k : ℕ} (v : Colum
 
 -- a column's entries stand among all of U's
 pub column-among : {n : ℕ} {up ui next₀ li₀ next li : List ℕ} {k b f : ℕ} (s : Spreads n up ui next₀ li₀) (h : k < n) (x : b ≡ getD up k 0) (y : f ≡ getD up (k + 1) 0) (v : Columns n up ui next₀ li₀ next li k)
-    → let c = spreads-column s h x y v in (byKey (c .n) (c .keys) (c .xs) ≡ byKey n (flatten (s .us)) (numbers 0 (s .us))) × (c .n ≡ n) × (c .next₀ ≡ next₀)
+    → let c = spreads-column s h x y v in byKey (c .n) (c .keys) (c .xs) ≡ byKey n (flatten (s .us)) (numbers 0 (s .us))
 unfolding spreads-column
-column-among s h x y v = (refl, refl, refl)
+column-among s h x y v = refl

@@ -5,3 +5,4 @@ pub mod Steps
 pub mod Backward
 pub mod Falling
 pub mod Bumps
+pub mod Ending

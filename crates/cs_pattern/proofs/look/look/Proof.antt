@@ -1,8 +1,9 @@
+use borrow.Author.Tests.{not-true}
 use native.Mathlib.Omega.{arith}
 use borrow.Author.Tests.{not-false}
 use Rattle.lists.proofs.Laying.{part-long}
 use Rattle.lists.proofs.Keeping.{kept-all}
-use Rattle.cs_pattern.proofs.Finding.{unseen, look-asks, look-unseen, look-told}
+use Rattle.cs_pattern.proofs.Finding.{unseen, lp-long, lp-first, li-long, look-asks, look-unseen, look-told}
 use borrow.Author.Needs.{needs}
 use Rattle.cs_pattern.proofs.look.look.Statement.{statement}
 use Rattle.cs_pattern.proofs.look.look.Tie as tie
@@ -14,7 +15,7 @@ use Rattle.cs_pattern.proofs.same.same.Reads as same-reads
 
 -- src/look.rt:74:9
 returns : tie.Need-returns
-returns c = unseen (c .before .before .before .before .before .before .args .n) (c .before .before .before .before .before .before .args .t) (c .before .before .before .before .before .before .args .up .now) (c .before .before .before .before .before .before .args .ui .now) (c .before .before .before .before .before .before .args .lp .now) (c .before .before .before .before .before .before .args .li .now) (kept-all _ _)
+returns c = unseen (c .before .before .before .before .before .before .args .lp .now) (c .before .before .before .before .before .before .args .li .now) (λ u h. omega (arith, c .if1 .taken, lp-long (c .before .before .before .before .before .before .args .lp .now) (c .before .before .before .before .before .before .args .li .now) u h)) (kept-all _ _)
 
 -- src/look.rt:76:8
 shared-slice-read-if2 : tie.Need-shared-slice-read-if2
@@ -22,11 +23,11 @@ shared-slice-read-if2 c = search needs
 
 -- src/look.rt:77:9
 returns-2 : tie.Need-returns-2
-returns-2 c = unseen (c .before .before .before .before .before .before .before .before .args .n) (c .before .before .before .before .before .before .before .before .args .t) (c .before .before .before .before .before .before .before .before .args .up .now) (c .before .before .before .before .before .before .before .before .args .ui .now) (c .before .before .before .before .before .before .before .before .args .lp .now) (c .before .before .before .before .before .before .before .before .args .li .now) (kept-all _ _)
+returns-2 c = unseen (c .before .before .before .before .before .before .before .before .args .lp .now) (c .before .before .before .before .before .before .before .before .args .li .now) (λ u h. c .if2 .taken (lp-first (c .before .before .before .before .before .before .before .before .args .lp .now) (c .before .before .before .before .before .before .before .before .args .li .now) u h)) (kept-all _ _)
 
 -- src/look.rt:80:9
 returns-3 : tie.Need-returns-3
-returns-3 c = unseen (c .before .before .before .before .before .before .before .before .before .args .n) (c .before .before .before .before .before .before .before .before .before .args .t) (c .before .before .before .before .before .before .before .before .before .args .up .now) (c .before .before .before .before .before .before .before .before .before .args .ui .now) (c .before .before .before .before .before .before .before .before .before .args .lp .now) (c .before .before .before .before .before .before .before .before .before .args .li .now) (kept-all _ _)
+returns-3 c = unseen (c .before .before .before .before .before .before .before .before .before .args .lp .now) (c .before .before .before .before .before .before .before .before .before .args .li .now) (λ u h. omega (arith, c .if3 .taken, li-long (c .before .before .before .before .before .before .before .before .before .args .lp .now) (c .before .before .before .before .before .before .before .before .before .args .li .now) u h)) (kept-all _ _)
 
 -- src/look.rt:82:10
 sub-copy : tie.Need-sub-copy
@@ -78,7 +79,7 @@ same-length c = search needs
 
 -- src/look.rt:84:9
 returns-4 : tie.Need-returns-4
-returns-4 c = look-unseen (c .before .before .before .before .before .before .before .before .before .before .before .before .before .before .before .before .before .before .before .before .args .n) (c .before .before .before .before .before .before .before .before .before .before .before .before .before .before .before .before .before .before .before .before .args .t) (c .before .before .before .before .before .before .before .before .before .before .before .before .before .before .before .before .before .before .before .before .args .up .now) (c .before .before .before .before .before .before .before .before .before .before .before .before .before .before .before .before .before .before .before .before .args .ui .now) (c .before .before .before .before .before .before .before .before .before .before .before .before .before .before .before .before .before .before .before .before .args .lp .now) (c .before .before .before .before .before .before .before .before .before .before .before .before .before .before .before .before .before .before .before .before .args .li .now) (c .before .before .before .before .before .before .before .before .before .before .before .before .before .before .before .before .before .before .before .before .args .w .now) (c .before .before .before .before .before .before .before .before .before .before .before .before .before .before .before .before .before .before .before .before .pre .1) (c .before .before .before .before .before .before .before .before .before .before .before .before .before .before .if1 .left) (c .before .before .before .before .before .before .before .before .copy .ensures) (c .before .before .before .before .before .before .before .before .before .before .before .if3 .left) (c .before .before .before .look-columns .last .1 .1 .1 .0) (c .before .before .before .look-columns .kept .1 .1 .1 .0)
+returns-4 c = look-unseen (c .before .before .before .before .before .before .before .before .before .before .before .before .before .before .before .before .before .before .before .before .args .n) (c .before .before .before .before .before .before .before .before .before .before .before .before .before .before .before .before .before .before .before .before .args .t) (c .before .before .before .before .before .before .before .before .before .before .before .before .before .before .before .before .before .before .before .before .args .up .now) (c .before .before .before .before .before .before .before .before .before .before .before .before .before .before .before .before .before .before .before .before .args .ui .now) (c .before .before .before .before .before .before .before .before .before .before .before .before .before .before .before .before .before .before .before .before .args .lp .now) (c .before .before .before .before .before .before .before .before .before .before .before .before .before .before .before .before .before .before .before .before .args .li .now) (c .before .before .before .before .before .before .before .before .before .before .before .before .before .before .before .before .before .before .before .before .args .w .now) (c .before .before .before .before .before .before .before .before .before .before .before .before .before .before .before .before .before .before .before .before .pre .1) (c .before .before .before .before .before .before .before .before .before .before .before .before .before .before .if1 .left) (c .before .before .before .before .before .before .before .before .copy .ensures) (c .before .before .before .before .before .before .before .before .before .before .before .if3 .left) (c .before .before .before .look-columns .last .1 .1 .1 .0) (c .before .before .before .look-columns .kept .1 .1 .1 .0) (not-true _ (c .if4 .taken)) (c .before .before .before .look-columns .ensures .1)
 
 -- src/look.rt:86:17
 add-same : tie.Need-add-same
@@ -106,7 +107,7 @@ same-length-2 c = search needs
 
 -- src/look.rt:59:1
 returns-5 : tie.Need-returns-5
-returns-5 c = look-told (c .before .before .before .before .before .before .before .before .before .before .before .before .before .before .before .before .before .before .before .before .before .before .before .args .n) (c .before .before .before .before .before .before .before .before .before .before .before .before .before .before .before .before .before .before .before .before .before .before .before .args .t) (c .before .before .before .before .before .before .before .before .before .before .before .before .before .before .before .before .before .before .before .before .before .before .before .args .up .now) (c .before .before .before .before .before .before .before .before .before .before .before .before .before .before .before .before .before .before .before .before .before .before .before .args .ui .now) (c .before .before .before .before .before .before .before .before .before .before .before .before .before .before .before .before .before .before .before .before .before .before .before .args .lp .now) (c .before .before .before .before .before .before .before .before .before .before .before .before .before .before .before .before .before .before .before .before .before .before .before .args .li .now) (c .before .before .before .before .before .before .before .before .before .before .before .before .before .before .before .before .before .before .before .before .before .before .before .args .w .now) (c .before .before .before .before .before .before .before .before .before .before .before .before .before .before .before .before .before .before .before .before .before .before .before .pre .1) (c .before .before .before .before .before .before .before .before .before .before .before .before .before .before .before .before .before .if1 .left) (c .before .before .before .before .before .before .before .before .before .before .before .copy .ensures) (c .before .before .before .before .before .before .before .before .before .before .before .before .before .before .if3 .left) (c .before .before .before .before .before .before .look-columns .last .1 .1 .1 .0) (c .before .before .before .before .before .before .look-columns .kept .1 .1 .1 .0) (c .before .before .before .before .before .before .before .before .before .before .before .before .before .before .before .if2 .left) (c .before .before .before .before .before .before .look-columns .ensures) (not-false _ (c .before .before .before .if4 .left)) (c .same .ensures)
+returns-5 c = look-told (c .before .before .before .before .before .before .before .before .before .before .before .before .before .before .before .before .before .before .before .before .before .before .before .args .n) (c .before .before .before .before .before .before .before .before .before .before .before .before .before .before .before .before .before .before .before .before .before .before .before .args .t) (c .before .before .before .before .before .before .before .before .before .before .before .before .before .before .before .before .before .before .before .before .before .before .before .args .up .now) (c .before .before .before .before .before .before .before .before .before .before .before .before .before .before .before .before .before .before .before .before .before .before .before .args .ui .now) (c .before .before .before .before .before .before .before .before .before .before .before .before .before .before .before .before .before .before .before .before .before .before .before .args .lp .now) (c .before .before .before .before .before .before .before .before .before .before .before .before .before .before .before .before .before .before .before .before .before .before .before .args .li .now) (c .before .before .before .before .before .before .before .before .before .before .before .before .before .before .before .before .before .before .before .before .before .before .before .args .w .now) (c .before .before .before .before .before .before .before .before .before .before .before .before .before .before .before .before .before .before .before .before .before .before .before .pre .1) (c .before .before .before .before .before .before .before .before .before .before .before .before .before .before .before .before .before .if1 .left) (c .before .before .before .before .before .before .before .before .before .before .before .copy .ensures) (c .before .before .before .before .before .before .before .before .before .before .before .before .before .before .if3 .left) (c .before .before .before .before .before .before .look-columns .last .1 .1 .1 .0) (c .before .before .before .before .before .before .look-columns .kept .1 .1 .1 .0) (c .before .before .before .before .before .before .before .before .before .before .before .before .before .before .before .if2 .left) (c .before .before .before .before .before .before .look-columns .ensures .0) (not-false _ (c .before .before .before .if4 .left)) (c .same .ensures)
 
 pub look-spec : {M : Type 1} → statement M
 look-spec =

@@ -1,3 +1,6 @@
+use borrow.Author.Tests.{not-true}
+use Rattle.cs_pattern.proofs.Finding.{lower-turn, lower-stop}
+use Rattle.cs_tree.proofs.Spreading.{Columns, columns-start}
 use Rattle.cs_tree.proofs.Looking.{Seen, seen-start, seen-order, seen-inside, seen-low, seen-turn, seen-done}
 use borrow.Author.Tests.{not-false}
 use native.Mathlib.Omega.{arith}
@@ -14,14 +17,14 @@ use Rattle.cs_pattern.proofs.look.look_column.Reads as look-column-read
 use Rattle.lists.proofs.numbers.wide.Reads as wide-reads
 
 abbrev Inv-loop : tie.InvT-loop
-Inv-loop n up ui next₀ li k₀ next k = (length next ≡ n) × Seen n up ui li next₀ next k
+Inv-loop n up ui next₀ li k₀ next k = (length next ≡ n) × Seen n up ui li next₀ next k × Columns n up ui next₀ li next li k
 
 abbrev μ-loop : tie.MeasureT-loop
 μ-loop n up ui next₀ li k₀ next k = n - k
 
 -- src/look.rt:47:5
 loop-holds : tie.Need-loop-holds Inv-loop μ-loop
-loop-holds c = (c .before .before .before .before .pre .1, seen-start)
+loop-holds c = (c .before .before .before .before .pre .1, seen-start, columns-start)
 
 -- src/look.rt:48:22
 mul-wide : tie.Need-mul-wide Inv-loop μ-loop
@@ -81,7 +84,7 @@ same-length c = search needs
 
 -- src/look.rt:51:13
 returns : tie.Need-returns Inv-loop μ-loop
-returns c = λ z. absurd (true≢false (sym z))
+returns c = (λ z. absurd (true≢false (sym z)), λ z. lower-stop (c .before .before .before .before .before .before .before .before .before .before .before .loop .inv .2) (c .before .before .before .before .before .before .before .before .before .before .loop-test .taken) (c .before .before .before .before .before .before .before .before .wide .ensures .0) (c .before .before .before .before .before .before .wide2 .ensures .0) (c .before .before .before .look-column .ensures .1) (not-true _ (c .if1 .taken)))
 
 -- src/look.rt:53:9
 add-k : tie.Need-add-k Inv-loop μ-loop
@@ -93,7 +96,11 @@ loop-less c = omega (arith, c .before .before .before .before .before .before .b
 
 -- src/look.rt:47:5
 loop-again : tie.Need-loop-again Inv-loop μ-loop
-loop-again c = (c .before .before .before .look-column .kept .1 .1 .0 ∙ c .before .before .before .before .before .before .before .before .before .before .before .loop .inv .0, seen-turn (c .before .before .before .before .before .before .before .before .before .before .before .loop .inv .1) (c .before .before .before .before .before .before .before .before .before .before .loop-test .taken) (omega (arith, c .before .before .before .before .before .before .before .before .before .before .before .loop .inv .0)) (c .before .before .before .before .before .before .before .before .wide .ensures .0) (c .before .before .before .before .before .before .wide2 .ensures .0) (c .before .before .before .look-column .ensures (not-false _ (c .if1 .left))))
+loop-again c = (
+  c .before .before .before .look-column .kept .1 .1 .0 ∙ c .before .before .before .before .before .before .before .before .before .before .before .loop .inv .0,
+  seen-turn (c .before .before .before .before .before .before .before .before .before .before .before .loop .inv .1) (c .before .before .before .before .before .before .before .before .before .before .loop-test .taken) (omega (arith, c .before .before .before .before .before .before .before .before .before .before .before .loop .inv .0)) (c .before .before .before .before .before .before .before .before .wide .ensures .0) (c .before .before .before .before .before .before .wide2 .ensures .0) (c .before .before .before .look-column .ensures .0 (not-false _ (c .if1 .left))),
+  lower-turn (c .before .before .before .before .before .before .before .before .before .before .before .loop .inv .2) (c .before .before .before .before .before .before .before .before .before .before .loop-test .taken) (c .before .before .before .before .before .before .before .before .wide .ensures .0) (c .before .before .before .before .before .before .wide2 .ensures .0) (c .before .before .before .look-column .ensures .1) (not-false _ (c .if1 .left)),
+)
 
 -- src/look.rt:40:1
 same-length-2 : tie.Need-same-length-2 Inv-loop μ-loop
@@ -101,7 +108,7 @@ same-length-2 c = search needs
 
 -- src/look.rt:40:1
 returns-2 : tie.Need-returns-2 Inv-loop μ-loop
-returns-2 c = λ z. seen-done (c .before .loop .inv .1) (c .loop-test .left)
+returns-2 c = (λ z. seen-done (c .before .loop .inv .1) (c .loop-test .left), λ z. absurd (true≢false z))
 
 pub look-columns-spec : {M : Type 1} → statement M
 look-columns-spec =

@@ -1,3 +1,4 @@
+use Rattle.cs_tree.proofs.Aiming.{backing-reads, backing-none}
 use mathlib.Core.Path.{sym}
 use Prim.Native.Nat.{_-_}
 use lib.ListN.{length}
@@ -55,7 +56,7 @@ same-length c = search needs
 
 -- src/quick.rt:103:13
 returns : tie.Need-returns Inv-loop μ-loop
-returns c = λ z. absurd (true≢false (sym z))
+returns c = (λ z. absurd (true≢false (sym z)), λ e. absurd (omega (arith, c .if2 .taken, backing-reads (c .before .before .before .before .before .before .before .before .before .loop .inv) e (c .before .before .before .before .before .before .before .before .loop-test .taken) (c .before .before .before .read-row .ensures .1))))
 
 -- src/quick.rt:106:9
 add-q : tie.Need-add-q Inv-loop μ-loop
@@ -67,7 +68,7 @@ loop-less c = omega (arith, c .before .before .before .before .before .before .b
 
 -- src/quick.rt:96:5
 loop-again : tie.Need-loop-again Inv-loop μ-loop
-loop-again c = backing-turn (c .before .before .before .before .before .before .before .before .before .loop .inv) (c .before .before .before .before .before .before .before .before .loop-test .taken) (c .before .before .before .read-row .kept .1 .1 .1 .0) (c .before .before .before .read-row .ensures) (c .if2 .left)
+loop-again c = backing-turn (c .before .before .before .before .before .before .before .before .before .loop .inv) (c .before .before .before .before .before .before .before .before .loop-test .taken) (c .before .before .before .read-row .kept .1 .1 .1 .0) (c .before .before .before .read-row .ensures .0) (c .if2 .left)
 
 -- src/quick.rt:90:1
 same-length-2 : tie.Need-same-length-2 Inv-loop μ-loop
@@ -76,8 +77,10 @@ same-length-2 c = search needs
 -- src/quick.rt:90:1
 returns-2 : tie.Need-returns-2 Inv-loop μ-loop
 returns-2 c = ⊎-elim
-    (λ w z. backing-done (c .before .loop .inv) (w .left) (eqb-true _ _ z))
-    (λ w z. backing-done (backing-past (c .before .loop .inv) (c .before .before .before .before .before .before .pre .3) (w .2 .taken)) (omega arith) (eqb-true _ _ z))
+    (λ w. (λ z. backing-done (c .before .loop .inv) (w .left) (eqb-true _ _ z), λ e. backing-none (c .before .loop .inv) e (w .left)))
+    (λ w.
+    let v = backing-past (c .before .loop .inv) (c .before .before .before .before .before .before .pre .3) (w .2 .taken) in
+    (λ z. backing-done v (omega arith) (eqb-true _ _ z), λ e. backing-none v e (omega arith)))
     (c .loop-test .came)
 
 pub read-column-spec : {M : Type 1} → statement M

@@ -1,3 +1,7 @@
+use Rattle.cs_tree.proofs.Aiming.{holds-first, holds-order, holds-inside, holds-column}
+use Rattle.lists.proofs.Bools.{not-both}
+use borrow.Author.Tests.{not-true}
+use mathlib.Core.Path.{refl}
 use Rattle.lists.proofs.Parts.{length-part}
 use mathlib.Core.Bool.{true≢false}
 use Rattle.cs_tree.proofs.Backward.{Reading, reading-start, reading-turn, reading-done}
@@ -29,7 +33,7 @@ shared-slice-read-if1 c = search needs
 
 -- src/quick.rt:124:9
 returns : tie.Need-returns Inv-loop μ-loop
-returns c = λ z. absurd (true≢false (sym z))
+returns c = (λ z. absurd (true≢false (sym z)), λ d. absurd (c .if1 .taken (holds-first d)))
 
 -- src/quick.rt:127:5
 loop-holds : tie.Need-loop-holds Inv-loop μ-loop
@@ -97,7 +101,7 @@ same-length c = c .before .before .before .before .before .before .before .befor
 
 -- src/quick.rt:133:13
 returns-2 : tie.Need-returns-2 Inv-loop μ-loop
-returns-2 c = λ z. absurd (true≢false (sym z))
+returns-2 c = (λ z. absurd (true≢false (sym z)), λ d. absurd (omega (arith, c .if2 .taken, holds-order (c .before .before .before .before .before .before .before .before .before .before .before .before .before .before .before .before .before .before .before .pre .1) d (inside (c .before .before .before .before .before .before .before .before .before .before .before .before .before .before .before .before .before .before .before .pre .0) (c .before .before .before .before .before .before .before .before .before .loop-test .taken)) (c .before .before .before .wide3 .ensures .0) (c .before .wide4 .ensures .0))))
 
 -- src/quick.rt:136:13
 same-length-2 : tie.Need-same-length-2 Inv-loop μ-loop
@@ -105,7 +109,7 @@ same-length-2 c = c .before .before .before .before .before .before .before .bef
 
 -- src/quick.rt:136:13
 returns-3 : tie.Need-returns-3 Inv-loop μ-loop
-returns-3 c = λ z. absurd (true≢false (sym z))
+returns-3 c = (λ z. absurd (true≢false (sym z)), λ d. absurd (omega (arith, c .if3 .taken, holds-inside (c .before .before .before .before .before .before .before .before .before .before .before .before .before .before .before .before .before .before .before .before .pre .1) d (inside (c .before .before .before .before .before .before .before .before .before .before .before .before .before .before .before .before .before .before .before .before .pre .0) (c .before .before .before .before .before .before .before .before .before .before .loop-test .taken)) (c .before .before .before .before .wide3 .ensures .0) (c .before .before .wide4 .ensures .0))))
 
 -- src/quick.rt:138:25
 cast-read-column : tie.Need-cast-read-column Inv-loop μ-loop
@@ -149,7 +153,15 @@ same-length-3 c = c .before .before .before .read-column .kept .1 .1 .1 .0 ∙ c
 
 -- src/quick.rt:139:13
 returns-4 : tie.Need-returns-4 Inv-loop μ-loop
-returns-4 c = λ z. absurd (true≢false (sym z))
+returns-4 c = (
+  λ z. absurd (true≢false (sym z)),
+  λ d.
+      absurd
+      (not-both _
+      (c .before .before .before .read-column .ensures .1
+      (holds-column (c .before .before .before .before .before .before .before .before .before .before .before .before .before .before .before .before .before .before .before .before .before .before .before .before .before .before .before .pre .1) d (inside (c .before .before .before .before .before .before .before .before .before .before .before .before .before .before .before .before .before .before .before .before .before .before .before .before .before .before .before .pre .0) (c .before .before .before .before .before .before .before .before .before .before .before .before .before .before .before .before .before .loop-test .taken)) (c .before .before .before .before .before .before .before .before .before .before .before .wide3 .ensures .0) (c .before .before .before .before .before .before .before .before .before .wide4 .ensures .0) (part-is (c .before .before .before .before .before .before .before .before .before .before .before .before .before .before .before .before .before .before .before .before .before .before .before .before .before .before .before .pre .0) (c .before .before .before .before .before .before .before .before .before .before .before .before .before .before .before .before .before .loop-test .taken) (c .before .before .before .before .before .before .before .before .before .before .before .before .before .before .before .wide .ensures .0) (c .before .before .before .before .before .before .before .before .before .before .before .before .before .wide2 .ensures .0))))
+      (not-true _ (c .if4 .taken))),
+)
 
 -- src/quick.rt:141:9
 add-k : tie.Need-add-k Inv-loop μ-loop
@@ -161,7 +173,7 @@ loop-less c = omega (arith, c .before .before .before .before .before .before .b
 
 -- src/quick.rt:127:5
 loop-again : tie.Need-loop-again Inv-loop μ-loop
-loop-again c = reading-turn (c .before .before .before .before .before .before .before .before .before .before .before .before .before .before .before .before .before .before .before .before .before .before .before .before .before .before .before .pre .1) (c .before .before .before .before .before .before .before .before .before .before .before .before .before .before .before .before .before .before .loop .inv) (inside (c .before .before .before .before .before .before .before .before .before .before .before .before .before .before .before .before .before .before .before .before .before .before .before .before .before .before .before .pre .0) (c .before .before .before .before .before .before .before .before .before .before .before .before .before .before .before .before .before .loop-test .taken)) (part-is (c .before .before .before .before .before .before .before .before .before .before .before .before .before .before .before .before .before .before .before .before .before .before .before .before .before .before .before .pre .0) (c .before .before .before .before .before .before .before .before .before .before .before .before .before .before .before .before .before .loop-test .taken) (c .before .before .before .before .before .before .before .before .before .before .before .before .before .before .before .wide .ensures .0) (c .before .before .before .before .before .before .before .before .before .before .before .before .before .wide2 .ensures .0)) (c .before .before .before .before .before .before .before .before .before .before .before .wide3 .ensures .0) (c .before .before .before .before .before .before .before .before .before .wide4 .ensures .0) (c .before .before .before .before .before .before .before .before .if2 .left) (c .before .before .before .before .before .before .before .if3 .left) (c .before .before .before .read-column .kept .1 .1 .1 .0) (c .before .before .before .read-column .ensures (not-false _ (c .if4 .left)))
+loop-again c = reading-turn (c .before .before .before .before .before .before .before .before .before .before .before .before .before .before .before .before .before .before .before .before .before .before .before .before .before .before .before .pre .1) (c .before .before .before .before .before .before .before .before .before .before .before .before .before .before .before .before .before .before .loop .inv) (inside (c .before .before .before .before .before .before .before .before .before .before .before .before .before .before .before .before .before .before .before .before .before .before .before .before .before .before .before .pre .0) (c .before .before .before .before .before .before .before .before .before .before .before .before .before .before .before .before .before .loop-test .taken)) (part-is (c .before .before .before .before .before .before .before .before .before .before .before .before .before .before .before .before .before .before .before .before .before .before .before .before .before .before .before .pre .0) (c .before .before .before .before .before .before .before .before .before .before .before .before .before .before .before .before .before .loop-test .taken) (c .before .before .before .before .before .before .before .before .before .before .before .before .before .before .before .wide .ensures .0) (c .before .before .before .before .before .before .before .before .before .before .before .before .before .wide2 .ensures .0)) (c .before .before .before .before .before .before .before .before .before .before .before .wide3 .ensures .0) (c .before .before .before .before .before .before .before .before .before .wide4 .ensures .0) (c .before .before .before .before .before .before .before .before .if2 .left) (c .before .before .before .before .before .before .before .if3 .left) (c .before .before .before .read-column .kept .1 .1 .1 .0) (c .before .before .before .read-column .ensures .0 (not-false _ (c .if4 .left)))
 
 -- src/quick.rt:110:1
 same-length-4 : tie.Need-same-length-4 Inv-loop μ-loop
@@ -169,7 +181,7 @@ same-length-4 c = c .before .loop .inv .m-long ∙ sym (as-many (c .before .befo
 
 -- src/quick.rt:110:1
 returns-5 : tie.Need-returns-5 Inv-loop μ-loop
-returns-5 c = λ z. reading-done (c .before .before .before .before .before .before .before .before .before .before .pre .1) (c .before .loop .inv) (outside (c .before .before .before .before .before .before .before .before .before .before .pre .0) (c .loop-test .left)) (omega (arith, columns-long (c .before .before .before .before .before .before .before .before .before .before .pre .0), c .before .before .before .before .before .before .before .before .before .before .pre .4))
+returns-5 c = (λ z. reading-done (c .before .before .before .before .before .before .before .before .before .before .pre .1) (c .before .loop .inv) (outside (c .before .before .before .before .before .before .before .before .before .before .pre .0) (c .loop-test .left)) (omega (arith, columns-long (c .before .before .before .before .before .before .before .before .before .before .pre .0), c .before .before .before .before .before .before .before .before .before .before .pre .4)), λ d. refl)
 
 pub read-columns-spec : {M : Type 1} → statement M
 read-columns-spec =

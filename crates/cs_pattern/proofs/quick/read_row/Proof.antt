@@ -1,3 +1,5 @@
+use Rattle.cs_tree.proofs.Aiming.{unlisted}
+use native.Mathlib.Omega.{arith}
 use Rattle.cs_tree.proofs.Backward.{read-listed}
 use borrow.Author.Needs.{needs}
 use Rattle.cs_pattern.proofs.quick.read_row.Statement.{statement}
@@ -25,11 +27,11 @@ add-if1 c = search needs
 
 -- src/quick.rt:84:9
 returns : tie.Need-returns
-returns c = read-listed (c .before .before .before .before .before .before .pre .0) (c .before .before .before .before .before .before .pre .2) (c .before .before .wide .ensures .0) (c .if1 .taken)
+returns c = (read-listed (c .before .before .before .before .before .before .pre .0) (c .before .before .before .before .before .before .pre .2) (c .before .before .wide .ensures .0) (c .if1 .taken), λ older g m d. omega arith)
 
 -- src/quick.rt:86:5
 descend-requires : tie.Need-descend-requires
-descend-requires c κs = (c .before .before .before .before .before .before .before .pre .0, c .before .before .before .before .before .before .before .pre .1)
+descend-requires c κs = (c .before .before .before .before .before .before .before .pre .0, c .before .before .before .before .before .before .before .pre .1, unlisted (c .before .before .before .before .before .before .before .pre .2) (c .before .before .before .wide .ensures .0) (c .before .if1 .left))
 
 -- src/quick.rt:78:1
 same-length : tie.Need-same-length

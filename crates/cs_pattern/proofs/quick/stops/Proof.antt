@@ -1,3 +1,5 @@
+use Rattle.cs_tree.proofs.Aiming.{stops-marked}
+use native.Mathlib.Omega.{arith}
 use mathlib.Core.Path.{refl, sym}
 use Rattle.cs_tree.proofs.Backward.{stops-over, stops-seen}
 use borrow.Author.Tests.{eqb-true}
@@ -11,7 +13,7 @@ use Rattle.lists.proofs.numbers.wide.Reads as wide-reads
 
 -- src/quick.rt:29:9
 returns : tie.Need-returns
-returns c = λ z. absurd (true≢false (sym z))
+returns c = (λ z. absurd (true≢false (sym z)), λ older g l n. absurd (omega (arith, c .if1 .taken, l)))
 
 -- src/quick.rt:31:21
 wide-requires : tie.Need-wide-requires
@@ -27,7 +29,7 @@ shared-slice-read-above c = search needs
 
 -- src/quick.rt:33:9
 returns-2 : tie.Need-returns-2
-returns-2 c = λ z. stops-over (c .before .before .before .before .before .before .pre) (c .before .before .before .if1 .left) (c .before .before .wide .ensures .0) refl (c .if2 .taken)
+returns-2 c = (λ z. stops-over (c .before .before .before .before .before .before .pre) (c .before .before .before .if1 .left) (c .before .before .wide .ensures .0) refl (c .if2 .taken), λ older g l n. refl)
 
 -- src/quick.rt:35:10
 wide-requires-2 : tie.Need-wide-requires-2
@@ -47,7 +49,10 @@ add-result c = search needs
 
 -- src/quick.rt:24:1
 returns-3 : tie.Need-returns-3
-returns-3 c = λ z. stops-seen (c .before .before .before .before .before .before .before .before .pre) (c .before .before .before .before .before .if1 .left) (c .before .before .before .before .wide .ensures .0) refl (c .before .before .if2 .left) (c .before .wide2 .ensures .0) (eqb-true _ _ z)
+returns-3 c = (
+  λ z. stops-seen (c .before .before .before .before .before .before .before .before .pre) (c .before .before .before .before .before .if1 .left) (c .before .before .before .before .wide .ensures .0) refl (c .before .before .if2 .left) (c .before .wide2 .ensures .0) (eqb-true _ _ z),
+  λ older g l n. stops-marked (c .before .before .before .before .before .before .before .before .pre) (c .before .before .before .before .wide .ensures .0) refl (c .before .before .if2 .left) (c .before .wide2 .ensures .0) older g n,
+)
 
 pub stops-spec : {M : Type 1} → statement M
 stops-spec =

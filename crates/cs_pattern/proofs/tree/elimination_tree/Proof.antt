@@ -3,7 +3,6 @@ use mathlib.Core.Path.{_∙_, sym}
 use Rattle.cs_tree.proofs.Growing.{Growing, growing-start, growing-asks, growing-turn, growing-done, par-long, anc-long}
 use Rattle.cs_pattern.specs.Columns.{columns}
 use Rattle.cs_matrix.specs.Matrix.{pattern}
-use native.Mathlib.Omega.{arith}
 use Prim.Native.Nat.{_-_}
 use borrow.Author.Needs.{needs}
 use Rattle.cs_pattern.proofs.tree.elimination_tree.Statement.{statement}

@@ -1,9 +1,8 @@
-use Rattle.cs_tree.proofs.Climbing.{Climbing, Climbed, Rows, climbing-start, climbing-up, climbing-next, climbing-root, climbing-end, rows-start, rows-turn, rows-done}
+use Rattle.cs_tree.proofs.Climbing.{Climbing, Rows, climbing-start, climbing-up, climbing-next, climbing-root, climbing-end, rows-start, rows-turn, rows-done}
 use Rattle.cs_tree.proofs.Past.{rows-past}
 use Prim.Native.Nat.{_-_}
 use lib.ListN.{length}
 use mathlib.Core.Logic.{⊎-elim}
-use mathlib.Core.Path.{refl}
 use native.Mathlib.Omega.{arith}
 use borrow.Author.Needs.{needs}
 use Rattle.cs_pattern.proofs.tree.tree_column.Statement.{statement}
