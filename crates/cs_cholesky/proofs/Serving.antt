@@ -23,9 +23,10 @@ use Rattle.cs_tree.proofs.Lower.{length-upper}
 use Rattle.cs_tree.proofs.Promises.{promised, length-lower}
 use Rattle.cs_tree.proofs.Reread.{reread}
 use Rattle.cs_pattern.specs.Columns.{columns}
-use Rattle.cs_pattern.specs.Compare.{startsWith, same, tight}
+use Rattle.lists.specs.Order.{startsWith}
+use Rattle.cs_pattern.specs.Compare.{same, tight}
 use Rattle.cs_pattern.proofs.Columns.{columns-fit, columns-long}
-use Rattle.cs_pattern.proofs.Matching.{begins, starts-long, starts-at}
+use Rattle.lists.proofs.Matching.{begins, starts-long, starts-at}
 use Rattle.cs_cholesky.specs.Factor.{judgedFactor}
 use Rattle.cs_cholesky.specs.Served.{Laid, Served}
 use Rattle.cs_matrix.proofs.Squaring.{early-matrix, valid-matrix}

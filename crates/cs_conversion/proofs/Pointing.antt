@@ -17,7 +17,7 @@ use Rattle.lists.proofs.Ordered.{first-below}
 use Rattle.lists.proofs.Parts.{front}
 use Rattle.lists.proofs.Sorting.{key-none}
 use Rattle.lists.proofs.Tables.{length-table, is-table}
-use Rattle.cs_conversion.specs.Sorting.{Zeros}
+use Rattle.lists.specs.Keeping.{Zeros}
 use Rattle.cs_conversion.specs.InOrder.{Climbing, Placed, Ends, highest, Raised}
 use Rattle.cs_conversion.proofs.Columns.{cleared-long, kept-once}
 
@@ -38,7 +38,7 @@ ending-start {p = p} a z =
     }
   where
     blank : (c : ℕ) → getD p c 0 ≡ 0
-    blank c = ⊎-elim (λ (m : length p ≤ c). List·getD-eq-default p 0 m) (λ (m : c < length p). z .zero c m) (le-or-lt (length p) c)
+    blank c = ⊎-elim (λ (m : length p ≤ c). List·getD-eq-default p 0 m) (λ (m : c < length p). z .at c m) (le-or-lt (length p) c)
 
 module _ {cols p₀ p : List ℕ} {k : ℕ} (v : Ending cols p₀ p k) (h : k < length cols) where
   abbrev C : ℕ

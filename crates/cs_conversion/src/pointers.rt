@@ -6,7 +6,7 @@ ghost use lib.ListN.{length};
 ghost use Rattle.lists.specs.Calls.{onto};
 ghost use Rattle.lists.specs.Keys.{byKey};
 ghost use Rattle.lists.specs.Tables.{table};
-ghost use Rattle.cs_conversion.specs.Sorting.{Zeros};
+ghost use Rattle.lists.specs.Keeping.{Zeros};
 ghost use Rattle.cs_conversion.specs.InOrder.{Climbing, Placed, Ends, Raised};
 use lists::clear::clear;
 use lists::numbers::wide;

@@ -13,6 +13,8 @@ use Rattle.lists.specs.Calls.{lowest, onto, none, cleared, Scratch, scratch, wi
 use Rattle.lists.specs.Parts.{part, placed}
 use Rattle.lists.specs.Keeping.{Kept}
 use Rattle.lists.specs.Sums.{sums}
+use Rattle.lists.specs.Runs.{zipped}
+use Rattle.lists.proofs.Runs.{zipped-values}
 use Rattle.lists.proofs.Bools.{or-false, le-or-lt}
 use Rattle.lists.proofs.Calls.{first, then, early, late, done, wiped-each}
 use Rattle.lists.proofs.Clearing.{length-cleared, cleared-again}
@@ -21,7 +23,8 @@ use Rattle.lists.proofs.Parts.{length-part, length-placed, getD-part, length-on
 use Rattle.lists.proofs.Places.{placed-after}
 use Rattle.cs_matrix.specs.Matrix.{Pattern, pattern, needed, ValidPattern, judgedSquare}
 use Rattle.cs_tree.specs.Pattern.{Analysis, analysis, analysed, upper, lower, starts, entries}
-use Rattle.cs_tree.specs.Steps.{Given, Zeros, lengths}
+use Rattle.lists.specs.Keeping.{Zeros}
+use Rattle.cs_tree.specs.Steps.{Given, lengths}
 use Rattle.cs_tree.specs.Falling.{Ending, Ample}
 use Rattle.cs_tree.specs.Tree.{tree}
 use Rattle.cs_tree.proofs.Count.{length-starts, entries-lower}
@@ -133,10 +136,10 @@ module _ {n t : ℕ} {p i : List ℕ} (v : ValidPattern (pattern n n p i)) {w1 w
               ∙ getD-onto-rest w3 (starts 0 L) 0 q (omega (arith, starts-size));
         }
 
-  pub copy-asks : length (part 0 n w1) ≤ length (out .tree)
+  copy-asks : length (part 0 n w1) ≤ length (out .tree)
   copy-asks = rw (part-long n w1 (r .w1-long)) (r .tree-room)
 
-  pub filled-out : {tr up ui li w2a a b : List ℕ} (ys zs : List ℕ) → tr ≡ onto (out .tree) (part 0 n w1)
+  pub filled-out : {tr up ui li w2a a b : List ℕ} (ys zs : List ℕ) → tr ≡ zipped (λ _ v. v) (out .tree) (part 0 n w1)
       → (a ≡ onto (part 0 (n + 1) w3) (sums 0 (fronts (n + 1) w3 (out .lp)))) → (b ≡ onto (part 0 (n + 1) (out .lp)) (sums 0 (fronts (n + 1) w3 (out .lp))))
       → (up ≡ onto (out .up) (starts 0 (upper C))) × (ui ≡ onto (out .ui) (flatten (upper C))) × (li ≡ onto (out .li) (flatten L))
       → length zs ≡ length (part 1 (n + 1) (placed 0 (n + 1) w3 a)) → w2a ≡ cleared 0 n w2 → length ys ≡ length (part 0 n w2a)
@@ -144,7 +147,7 @@ module _ {n t : ℕ} {p i : List ℕ} (v : ValidPattern (pattern n n p i)) {w1 w
   unfolding written analysed
   filled-out {w2a = w2a} ys zs d x y g z h m =
       let l : n ≤ length w2a = rw (h, length-cleared 0 n w2) (r .w2-long) in
-      let c = d ∙ ap (onto (out .tree)) (r .tree-is) in
+      let c = d ∙ zipped-values (out .tree) (part 0 n w1) copy-asks ∙ ap (onto (out .tree)) (r .tree-is) in
       let f = sums-b L (n + 1) w3 (out .lp) many (r .w3-long) (r .lp-room) (r .lengths-are) small y in
       (λ q. analysis (c q) (g .0 q) (g .1 q) (f q) (g .2 q), kept-wider (n + 1) (omega arith) (kept-then (kept-cleared n h) (kept-placed n w2a ys (m ∙ part-long n w2a l) l)), next-kept x zs z)
 

@@ -18,18 +18,21 @@ use Rattle.lists.proofs.Laying.{part-long}
 use Rattle.cs_matrix.specs.Matrix.{pattern, ValidPattern}
 use Rattle.cs_tree.specs.Backward.{Holds}
 use Rattle.cs_tree.specs.Pattern.{Analysis, analysis, analysed, upper, lower, transposed, starts, entries}
-use Rattle.cs_tree.specs.Steps.{Given, Zeros, Whole}
+use Rattle.lists.specs.Keeping.{Zeros}
+use Rattle.cs_tree.specs.Steps.{Given, Whole}
 use Rattle.cs_tree.specs.Tree.{tree}
 use Rattle.cs_tree.proofs.Count.{length-starts}
 use Rattle.cs_tree.proofs.Laid.{length-laid, start-at}
 use Rattle.cs_tree.proofs.Laws.{fill-upper}
 use Rattle.cs_tree.proofs.Promises.{promised, filled}
 use Rattle.cs_pattern.specs.Columns.{columns}
-use Rattle.cs_pattern.specs.Compare.{startsWith, same, tight}
-use Rattle.cs_pattern.specs.Steps.{Begun, Known}
+use Rattle.lists.specs.Order.{startsWith}
+use Rattle.cs_pattern.specs.Compare.{same, tight}
+use Rattle.cs_pattern.specs.Steps.{Outlined, Known}
 use Rattle.cs_pattern.proofs.Columns.{columns-fit, columns-long}
 use Rattle.cs_pattern.proofs.Filled.{tree-size, upper-size, tree-part, begin-asks}
-use Rattle.cs_pattern.proofs.Matching.{alike, starts-places, starts-at, starts-long}
+use Rattle.lists.proofs.Bools.{alike}
+use Rattle.lists.proofs.Matching.{starts-places, starts-at, starts-long}
 
 -- ---- what the slices hold, as records and as tests
 module _ {n : ℕ} {p i : List ℕ} (v : ValidPattern (pattern n n p i)) (up ui : List ℕ) where
@@ -177,10 +180,10 @@ module _ {n : ℕ} {p i : List ℕ} (v : ValidPattern (pattern n n p i)) (w1 w2 
 
   -- they are not: U's entries are counted
   module _ {w1a w2a : List ℕ} (k1 : Kept 0 n w1 w1a) (k2 : Kept 0 n w2 w2a) where
-    pub begin-asked : ValidPattern (pattern n n p i) × (n ≤ length w1a) × (n ≤ length w2a) × (n ≤ length w3)
-    begin-asked = (v, omega (arith, k1 .long), omega (arith, k2 .long), omega arith)
+    pub outline-asked : ValidPattern (pattern n n p i) × (n ≤ length w1a) × (n ≤ length w2a) × (n ≤ length w3)
+    outline-asked = (v, omega (arith, k1 .long), omega (arith, k2 .long), omega arith)
 
-    module _ (room : ℕ) (tr up ui lp li : List ℕ) {t : ℕ} {w1b w2b w3b : List ℕ} (B : Begun D n t w1a w1b w2a w2b w3 w3b) where
+    module _ (room : ℕ) (tr up ui lp li : List ℕ) {t : ℕ} {w1b w2b w3b : List ℕ} (B : Outlined D n t w1a w1b w2a w2b w3 w3b) where
       abbrev held : Analysis
       held = analysis tr up ui lp li
 

@@ -14,7 +14,8 @@ use Rattle.lists.proofs.Laying.{placed-front, part-long, part-onto}
 use Rattle.lists.proofs.Parts.{getD-part, left-at}
 use Rattle.cs_matrix.specs.Matrix.{pattern, ValidPattern}
 use Rattle.cs_tree.specs.Pattern.{upper, lower, starts, entries}
-use Rattle.cs_tree.specs.Steps.{Given, Zeros, lengths, Whole}
+use Rattle.lists.specs.Keeping.{Zeros}
+use Rattle.cs_tree.specs.Steps.{Given, lengths, Whole}
 use Rattle.cs_tree.specs.Tree.{tree}
 use Rattle.cs_tree.proofs.Count.{length-starts}
 use Rattle.cs_tree.proofs.Falling.{upper-once, upper-below}
@@ -24,7 +25,7 @@ use Rattle.lists.proofs.Keeping.{kept-then, kept-cleared, kept-placed}
 use Rattle.cs_tree.proofs.Laid.{length-lengths, start-at, length-laid}
 use Rattle.cs_tree.proofs.Lowering.{counted-are, rows-are}
 use Rattle.cs_pattern.specs.Columns.{columns}
-use Rattle.cs_pattern.specs.Steps.{Begun, Outlined}
+use Rattle.cs_pattern.specs.Steps.{Outlined}
 use Rattle.cs_pattern.proofs.Columns.{columns-fit, columns-long, given}
 
 pub zeros-front : (n : ℕ) (w : List ℕ) {v : List ℕ} → n ≤ length w → v ≡ cleared 0 n w → Zeros (part 0 n v)
@@ -48,7 +49,7 @@ module _ {n : ℕ} {p i : List ℕ} (v : ValidPattern (pattern n n p i)) where
   pub tree-part : (w1 : List ℕ) {t : List ℕ} → t ≡ tree C → part 0 n (placed 0 n w1 t) ≡ tree C
   tree-part w1 e = ap (λ (y : List ℕ). part 0 n (placed 0 n w1 y)) e ∙ ap (part 0 n) (placed-front w1 (tree C) n tree-size) ∙ part-onto n w1 (tree C) tree-size
 
-  -- ---- `begin`
+  -- ---- `outline`
   module _ (w1 w2 w3 a : List ℕ) {t w2b : List ℕ} (l1 : n ≤ length w1) (l2 : n ≤ length w2) (l3 : n ≤ length w3) (e : t ≡ tree C) (f : length a ≡ length (part 0 n w2)) (g : w2b ≡ cleared 0 n (placed 0 n w2 a)) where
     a-long : length a ≡ n
     a-long = f ∙ part-long n w2 l2
@@ -59,24 +60,8 @@ module _ {n : ℕ} {p i : List ℕ} (v : ValidPattern (pattern n n p i)) where
     kept-b : Kept 0 n w2 w2b
     kept-b = kept-then kept-a (kept-cleared n g)
 
-    pub begin-asks : ValidPattern (pattern n n p i) × Given C (part 0 n (placed 0 n w1 t)) × (length (part 0 n w2b) ≡ n) × Zeros (part 0 n w2b) × (length (part 0 n w3) ≡ n)
-    begin-asks = (v, given v (tree-part w1 e), part-long n w2b (rw (kept-b .long) l2), zeros-front n (placed 0 n w2 a) (rw (kept-a .long) l2) g, part-long n w3 l3)
-
-    pub begun : {r : ℕ} (b : List ℕ) {c : List ℕ} → length b ≡ length (part 0 n w2b) → length c ≡ length (part 0 n w3) → (r ≡ min (entries (upper C)) 4194305) × (r ≤ 4194304 → c ≡ lengths (upper C))
-        → Begun C n r w1 (placed 0 n w1 t) w2 (placed 0 n w2b b) w3 (placed 0 n w3 c)
-    begun b {c = c} x y z =
-        let lb : n ≤ length w2b = rw (kept-b .long) l2 in
-        record {
-          count = z .0;
-          tree-is = ap (placed 0 n w1) e ∙ placed-front w1 (tree C) n tree-size;
-          kept2 = kept-then kept-b (kept-placed n w2b b (x ∙ part-long n w2b lb) lb);
-          kept3 = kept-placed n w3 c (y ∙ part-long n w3 l3) l3;
-          lengths-are = λ h. ap (placed 0 n w3) (z .1 h) ∙ placed-front w3 (lengths (upper C)) n (length-lengths (upper C) ∙ upper-size);
-        }
-
-    -- ---- `outline`, which starts likewise
     pub outline-asks : ValidPattern (pattern n n p i) × Given C (part 0 n (placed 0 n w1 t)) × (length (part 0 n w2b) ≡ n) × Zeros (part 0 n w2b) × (n ≤ length w3)
-    outline-asks = (begin-asks .0, begin-asks .1, begin-asks .2, begin-asks .3, l3)
+    outline-asks = (v, given v (tree-part w1 e), part-long n w2b (rw (kept-b .long) l2), zeros-front n (placed 0 n w2 a) (rw (kept-a .long) l2) g, l3)
 
     pub outlined : {r : ℕ} (b : List ℕ) {c : List ℕ} → length b ≡ length (part 0 n w2b)
         → (r ≡ min (entries (upper C)) 4194305) × Kept 0 n w3 c × (r ≤ 4194304 → c ≡ counted (flatten (upper C)) w3)
@@ -90,16 +75,6 @@ module _ {n : ℕ} {p i : List ℕ} (v : ValidPattern (pattern n n p i)) where
           kept3 = z .1;
           counts-are = z .2;
         }
-
-  -- the lengths of U's columns and a zero behind them, where they are not too many
-  pub lengths-there : {t : ℕ} {w1 w1′ w2 w2′ w3 w3′ : List ℕ} → Begun C n t w1 w1′ w2 w2′ w3 w3′ → n + 1 ≤ length w3 → getD w3 n 0 ≡ 0 → t ≤ 4194304 → take (n + 1) w3′ ≡ lengths (upper C) ++ (0 ∷ [])
-  unfolding onto
-  lengths-there {w3 = w3} B m z h =
-      let l : length (lengths (upper C)) ≡ n = length-lengths (upper C) ∙ upper-size in
-      let e : n + 1 ≡ length (lengths (upper C)) + 1 = omega arith in
-      let d : drop (length (lengths (upper C))) w3 ≡ 0 ∷ drop (n + 1) w3 = ap (λ (k : ℕ). drop k w3) l ∙ left-at w3 n 0 (omega arith) ∙ ap (λ (y : ℕ). y ∷ drop (n + 1) w3) z in
-      ap (take (n + 1)) (B .lengths-are h) ∙ ap (λ (k : ℕ). take k (lengths (upper C) ++ drop (length (lengths (upper C))) w3)) e
-      ∙ take-append-add (lengths (upper C)) (drop (length (lengths (upper C))) w3) 1 ∙ ap (λ (y : List ℕ). lengths (upper C) ++ take 1 y) d
 
   -- the lengths of L's columns and a zero behind them, where they are not too many
   whole : {t : ℕ} → t ≡ entries (upper C) → t ≤ 4194304 → Whole n t (starts 0 (upper C)) (flatten (upper C))

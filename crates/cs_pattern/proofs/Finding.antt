@@ -10,10 +10,12 @@ use Rattle.lists.specs.Calls.{onto}
 use Rattle.lists.specs.Keys.{byKey}
 use Rattle.lists.specs.Parts.{part, placed}
 use Rattle.lists.specs.Keeping.{Kept}
+use Rattle.lists.specs.Runs.{zipped}
 use Rattle.lists.proofs.Bools.{and-true, not-both}
 use Rattle.lists.proofs.Keeping.{kept-then, kept-onto, kept-placed}
 use Rattle.lists.proofs.Keys.{start-more}
 use Rattle.lists.proofs.Laying.{placed-front, part-front, part-onto, part-long}
+use Rattle.lists.proofs.Runs.{zipped-values}
 use Rattle.lists.proofs.Parts.{length-part, getD-part, getD-onto-front}
 use Rattle.lists.proofs.Standing.{Standing, standing-start}
 use Rattle.cs_tree.specs.Pattern.{transposed, starts, entries}
@@ -23,9 +25,10 @@ use Rattle.cs_tree.proofs.Laid.{length-laid, laid-transposed, transposed-start}
 use Rattle.cs_tree.proofs.Looking.{seen-starts, seen-places}
 use Rattle.cs_tree.proofs.Lowering.{items-long, named, lower-long, entries-lower}
 use Rattle.cs_tree.proofs.Spreading.{Going, going-holds, going-place, going-place-in, Columns, columns-turn, spreads-column, column-among}
-use Rattle.cs_pattern.specs.Compare.{startsWith}
+use Rattle.lists.specs.Order.{startsWith}
 use Rattle.cs_pattern.specs.Steps.{Looked}
-use Rattle.cs_pattern.proofs.Matching.{alike, starts-at, starts-long, starts-not, starts-places, starts-take}
+use Rattle.lists.proofs.Bools.{alike}
+use Rattle.lists.proofs.Matching.{starts-at, starts-long, starts-not, starts-places, starts-take}
 
 -- ---- `look_column`
 module _ {k : ℕ} {rows next₀ li next : List ℕ} {q : ℕ} (v : Going k rows next₀ li next li q) (h : q < length rows) {j t : ℕ} (e : j ≡ getD rows q 0) (f : t ≡ getD next j 0) where
@@ -137,9 +140,12 @@ module _ {n t : ℕ} {up ui : List ℕ} (lp li : List ℕ) where
         omega (arith, f, lp-at r (omega arith), lp-at (suc r) m, start-more ks xs r)
 
 module _ (n t : ℕ) (up ui lp li : List ℕ) where
-  module _ (w : List ℕ) (l : n ≤ length w) (a : n < length lp) {w1 : List ℕ} (c : w1 ≡ onto w (part 0 n lp)) where
+  module _ (w : List ℕ) (l : n ≤ length w) (a : n < length lp) {w1 : List ℕ} (copied : w1 ≡ zipped (λ _ v. v) w (part 0 n lp)) where
     front-long : length (part 0 n lp) ≡ n
     front-long = part-long n lp (omega arith)
+
+    c : w1 ≡ onto w (part 0 n lp)
+    c = copied ∙ zipped-values w (part 0 n lp) (omega (arith, front-long))
 
     kept-1 : Kept 0 n w w1
     kept-1 = rw c (kept-onto n w (part 0 n lp) (omega (arith, front-long)) (omega (arith, front-long)))

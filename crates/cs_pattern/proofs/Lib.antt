@@ -3,7 +3,6 @@ pub mod Falls
 pub mod Filled
 pub mod Promising
 pub mod Analysing
-pub mod Matching
 pub mod Finding
 pub mod Deciding
 pub mod Judging

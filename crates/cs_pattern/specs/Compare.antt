@@ -5,15 +5,10 @@ use Prim.Native.Nat.{ℕ}
 use lib.Dec.{ltb, eqb}
 use lib.ListN.{length}
 use Rattle.lists.specs.Calls.{lowest, Scratch, narrow}
+use Rattle.lists.specs.Order.{startsWith}
 use Rattle.cs_matrix.specs.Matrix.{Pattern, judgedSquare, needed}
 use Rattle.cs_tree.specs.Pattern.{Analysis, analysed}
 use Rattle.cs_pattern.specs.Columns.{columns}
-
--- the slice l holds xs in its front: a short slice does not, and what stands behind does not matter
-unfoldable pub startsWith : List ℕ → List ℕ → Bool
-startsWith [] l = true
-startsWith (x ∷ xs) [] = false
-startsWith (x ∷ xs) (y ∷ l) = eqb x y && startsWith xs l
 
 -- the needed part of the lent analysis is the analysis f
 unfoldable pub same : Analysis → Analysis → Bool

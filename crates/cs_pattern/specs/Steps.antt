@@ -13,15 +13,7 @@ use Rattle.cs_tree.specs.Backward.{Holds}
 use Rattle.cs_tree.specs.Pattern.{upper, lower, entries, Analysis}
 use Rattle.cs_tree.specs.Steps.{lengths, Spread, Put}
 use Rattle.cs_tree.specs.Tree.{tree}
-use Rattle.cs_pattern.specs.Compare.{startsWith}
-
--- the tree, the entries of U counted, and the lengths of its columns where they are not too many
-pub record Begun (cols : List (List ℕ)) (n t : ℕ) (w1 w1′ w2 w2′ w3 w3′ : List ℕ) : Type 0 where
-  pub count : t ≡ min (entries (upper cols)) 4194305
-  pub tree-is : w1′ ≡ onto w1 (tree cols)
-  pub kept2 : Kept 0 n w2 w2′
-  pub kept3 : Kept 0 n w3 w3′
-  pub lengths-are : t ≤ 4194304 → w3′ ≡ onto w3 (lengths (upper cols))
+use Rattle.lists.specs.Order.{startsWith}
 
 -- the tree, the entries of U counted, and one more at the row of each where they are not too many
 pub record Outlined (cols : List (List ℕ)) (n t : ℕ) (w1 w1′ w2 w2′ w3 w3′ : List ℕ) : Type 0 where
@@ -45,6 +37,11 @@ pub record Ready (cols : List (List ℕ)) (n t : ℕ) (w1 w2 w3 : List ℕ) (out
   pub ui-room : t ≤ length (out .ui)
   pub lp-room : n + 1 ≤ length (out .lp)
   pub li-room : t ≤ length (out .li)
+
+-- a column of L was looked at: it agrees, and `next` has gone on, or a place differs from what belongs there
+pub record Looked {k : ℕ} {rows next li : List ℕ} (s : Spread k rows next li) (r : Bool) (next1 li1 : List ℕ) : Type 0 where
+  pub agrees : r ≡ true → Put k rows next li s next1 li1 (length rows)
+  pub differs : r ≡ false → false ≡ startsWith (byKey (s .n) (s .keys) (s .xs)) li1
 
 -- the tree and U are held, and U has no more than 4,194,304 entries
 pub record Known (cols : List (List ℕ)) (tr up ui : List ℕ) : Type 0 where

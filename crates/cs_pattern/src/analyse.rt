@@ -11,12 +11,12 @@ ghost use Rattle.cs_pattern.specs.Analyse.{number, written};
 ghost use Rattle.cs_pattern.specs.Columns.{columns};
 ghost use Rattle.cs_pattern.specs.Promise.{Analysed};
 ghost use Rattle.cs_pattern.specs.Steps.{Ready};
-use crate::fill::copy;
 use crate::fill::outline;
 use crate::upper::fill_columns;
 use cs_matrix::square::prepare;
 use lists::clear::clear;
 use lists::clear::clear_scratch;
+use lists::sides::copy;
 use lists::sums::cumsum;
 
 // An output is shorter than needed, or U has more than 4,194,304 entries; t is their number.

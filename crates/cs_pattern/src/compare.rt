@@ -12,8 +12,9 @@ ghost use Rattle.cs_matrix.specs.Matrix.{pattern, needed, ValidPattern};
 ghost use Rattle.cs_tree.specs.Pattern.{analysis, analysed, transposed, starts};
 ghost use Rattle.cs_tree.specs.Steps.{Whole};
 ghost use Rattle.cs_pattern.specs.Columns.{columns};
-ghost use Rattle.cs_pattern.specs.Compare.{startsWith, same as sameAs, tight, number};
-use crate::fill::begin;
+ghost use Rattle.lists.specs.Order.{startsWith};
+ghost use Rattle.cs_pattern.specs.Compare.{same as sameAs, tight, number};
+use crate::fill::outline;
 use crate::look::look;
 use crate::quick::read_upper;
 use cs_matrix::square::prepare;
@@ -71,7 +72,7 @@ fn decide(
     if read_upper(n, p, i, tree, up, ui, w1, w2) {
         return judge_lower(n, wide(up[n]), room, up, ui, lp, li, w3);
     }
-    let t = begin(n, p, i, w1, w2, w3);
+    let t = outline(n, p, i, w1, w2, w3);
     if t > MOST {
         return 7;
     }

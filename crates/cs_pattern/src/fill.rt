@@ -1,34 +1,12 @@
-// What an analysis starts from, the tree and the counts, and the tree written.
-ghost use mathlib.Core.Path.{_≡_};
+// What an analysis starts from: the tree and the counts.
 ghost use Prim.Native.Nat.{_≤_};
 ghost use lib.ListN.{length};
-ghost use Rattle.lists.specs.Calls.{onto};
 ghost use Rattle.cs_matrix.specs.Matrix.{pattern, ValidPattern};
 ghost use Rattle.cs_pattern.specs.Columns.{columns};
-ghost use Rattle.cs_pattern.specs.Steps.{Begun, Outlined};
+ghost use Rattle.cs_pattern.specs.Steps.{Outlined};
 use crate::count::count_rows;
 use crate::tree::elimination_tree;
-use crate::upper::count_columns;
 use lists::clear::clear;
-
-// The tree in w1 and the number of entries of each column of U in w3, with w2 for the marks. The answer is how many entries U has,
-// or 4,194,305 where there are more than 4,194,304.
-pub fn begin(
-    n: usize,
-    p: &[u32],
-    i: &[u32],
-    w1: &mut [u32],
-    w2: &mut [u32],
-    w3: &mut [u32],
-) -> usize
-    requires { ⌜ ValidPattern (pattern n n (now p) (now i)) × (n ≤ length (now w1)) × (n ≤ length (now w2)) × (n ≤ length (now w3)) ⌝ }
-    ensures { λ r. ⌜ (let cols = columns (pattern n n (now (p .entry)) (now (i .entry))) in
-        Begun cols n r (now (w1 .entry)) (now (w1 .exit)) (now (w2 .entry)) (now (w2 .exit)) (now (w3 .entry)) (now (w3 .exit))) ⌝ }
-{
-    elimination_tree(n, p, i, &mut w1[0..n], &mut w2[0..n]);
-    clear(n, w2);
-    count_columns(n, p, i, &w1[0..n], &mut w2[0..n], &mut w3[0..n])
-}
 
 // The tree in w1 and, where w3 holds zeros, the number of entries of each column of L there, with w2 for the marks. The answer is how
 // many entries there are, or 4,194,305 where there are more than 4,194,304.
@@ -47,16 +25,4 @@ pub fn outline(
     elimination_tree(n, p, i, &mut w1[0..n], &mut w2[0..n]);
     clear(n, w2);
     count_rows(n, p, i, &w1[0..n], &mut w2[0..n], w3)
-}
-
-// Writes the elements of one slice to the front of another.
-pub fn copy(from: &[u32], out: &mut [u32])
-    requires { ⌜ length (now from) ≤ length (now out) ⌝ }
-    ensures { λ _. ⌜ now (out .exit) ≡ onto (now (out .entry)) (now (from .entry)) ⌝ }
-{
-    let mut k = 0;
-    while k < from.len() {
-        out[k] = from[k];
-        k += 1;
-    }
 }

@@ -8,6 +8,5 @@ mod look;
 mod lower;
 mod quick;
 mod reach;
-mod same;
 mod tree;
 mod upper;

@@ -11,11 +11,11 @@ ghost use Rattle.lists.specs.Keys.{byKey};
 ghost use Rattle.cs_tree.specs.Backward.{Stood};
 ghost use Rattle.cs_tree.specs.Pattern.{transposed, starts, entries};
 ghost use Rattle.cs_tree.specs.Steps.{Whole, Spread, Spreads, numbers};
-ghost use Rattle.cs_pattern.specs.Compare.{startsWith};
+ghost use Rattle.lists.specs.Order.{startsWith};
 ghost use Rattle.cs_pattern.specs.Steps.{Looked};
-use crate::fill::copy;
-use crate::same::same;
 use lists::numbers::wide;
+use lists::order::starts_with;
+use lists::sides::copy;
 
 // Each of the rows has k at its next place.
 fn look_column(k: u32, rows: &[u32], next: &mut [u32], li: &[u32]) -> bool
@@ -88,5 +88,5 @@ pub fn look(
     if !look_columns(n, up, ui, &mut w[0..n], &li[0..t]) {
         return false;
     }
-    same(&lp[1..n + 1], w)
+    starts_with(&lp[1..n + 1], w)
 }

@@ -11,13 +11,14 @@ ghost use Rattle.cs_matrix.specs.Matrix.{pattern, ValidPattern};
 ghost use Rattle.cs_tree.specs.Backward.{Stops, Read, Holds};
 ghost use Rattle.cs_tree.specs.Ending.{Unlisted, Ending};
 ghost use Rattle.cs_tree.specs.Pattern.{path, paths};
-ghost use Rattle.cs_tree.specs.Steps.{Walks, Marks, Given, Zeros};
+ghost use Rattle.lists.specs.Keeping.{Zeros};
+ghost use Rattle.cs_tree.specs.Steps.{Walks, Marks, Given};
 ghost use Rattle.cs_pattern.specs.Columns.{columns};
 ghost use Rattle.cs_pattern.specs.Steps.{Known};
-use crate::same::same;
 use crate::tree::elimination_tree;
 use lists::clear::clear;
 use lists::numbers::wide;
+use lists::order::starts_with;
 
 const MOST: usize = 4194304;
 
@@ -174,7 +175,7 @@ pub fn read_upper(
         return false;
     }
     elimination_tree(n, p, i, &mut w1[0..n], &mut w2[0..n]);
-    if !same(&w1[0..n], tree) {
+    if !starts_with(&w1[0..n], tree) {
         return false;
     }
     clear(n, w2);

@@ -1,26 +1,16 @@
 // The elimination tree, by climbs along the noted ancestors.
 ghost use mathlib.Core.Bool.{true};
 ghost use mathlib.Core.Path.{_≡_};
-ghost use lib.ListN.{length, replicate};
+ghost use lib.ListN.{length};
 ghost use Rattle.lists.specs.Order.{rises};
 ghost use Rattle.cs_matrix.specs.Matrix.{pattern, ValidPattern};
 ghost use Rattle.cs_tree.specs.Steps.{Climbs};
-ghost use Rattle.cs_tree.specs.Tree.{root, forest, climbs, tree};
+ghost use Rattle.cs_tree.specs.Tree.{forest, climbs, tree};
 ghost use Rattle.cs_pattern.specs.Columns.{columns};
+use lists::clear::fill;
 use lists::numbers::wide;
 
 const ROOT: u32 = 4294967295;
-
-// The root's mark in every place.
-fn roots(out: &mut [u32])
-    ensures { λ _. ⌜ now (out .exit) ≡ replicate (length (now (out .entry))) root ⌝ }
-{
-    let mut k = 0;
-    while k < out.len() {
-        out[k] = ROOT;
-        k += 1;
-    }
-}
 
 // Column k's part in the tree. The rows rise, so that the first that is not below k ends it.
 fn tree_column(k: u32, rows: &[u32], par: &mut [u32], anc: &mut [u32])
@@ -50,8 +40,8 @@ pub fn elimination_tree(n: usize, p: &[u32], i: &[u32], par: &mut [u32], anc: &m
     requires { ⌜ ValidPattern (pattern n n (now p) (now i)) × (length (now par) ≡ n) × (length (now anc) ≡ n) ⌝ }
     ensures { λ _. ⌜ now (par .exit) ≡ tree (columns (pattern n n (now (p .entry)) (now (i .entry)))) ⌝ }
 {
-    roots(par);
-    roots(anc);
+    fill(ROOT, n, par);
+    fill(ROOT, n, anc);
     for k in 0..n {
         let a = wide(p[k]);
         let e = wide(p[k + 1]);

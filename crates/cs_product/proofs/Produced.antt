@@ -25,7 +25,8 @@ use Rattle.cs_columns.proofs.Filling.{Filling, filling-start, filling-turn, fil
 use Rattle.cs_columns.proofs.Joining.{joined-none, length-more, joined-alike, entries-within, entries-valid}
 use Rattle.cs_columns.proofs.Judging.{early-two, Passed, passed, Roomy, roomy, short-fewer, short-for}
 use Rattle.cs_product.specs.Product.{accumulated, remains, rowOf, valueOf, product, neededTwo, number}
-use Rattle.cs_product.specs.Steps.{columnOf, Within, Spanned, size, Fresh, Starting, Column, Operands, Begun, Ready, Clean}
+use Rattle.cs_columns.specs.Columns.{Operands}
+use Rattle.cs_product.specs.Steps.{columnOf, Within, Spanned, size, Fresh, Starting, Column, Begun, Ready, Clean}
 use Rattle.cs_product.proofs.Spanning.{column-few}
 
 module _ (nrows ncols : ℕ) (ap ai : List ℕ) (av : List Float) (bncols : ℕ) (bp bi : List ℕ) (bv : List Float) where

@@ -147,11 +147,6 @@ pub record Dense (a : Matrix) (rows : List ℕ) (vals : List Float) (lo hi start
   pub in-i : start + length (chosen (a .pattern .nrows) (remains (columnOf a rows vals))) ≤ length oi
   pub in-v : start + length (chosen (a .pattern .nrows) (remains (columnOf a rows vals))) ≤ length ov
 
--- ---- two valid matrices
-pub record Operands (a b : Matrix) : Type 0 where
-  pub first : Valid a
-  pub second : Valid b
-
 -- and scratch for their columns
 pub record Begun (a b : Matrix) (stamp : ℕ) (mark met : List ℕ) (x : List Float) : Type 0 where
   pub first : Valid a

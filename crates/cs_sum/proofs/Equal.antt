@@ -13,11 +13,11 @@ use lib.Seq.{ext-getD, take-suc, take-all, length-take-le}
 use borrow.Author.Tests.{eqb-true, eq-eqb, ne-eqb}
 use Rattle.lists.specs.Calls.{onto}
 use Rattle.lists.specs.Choices.{chosen}
-use Rattle.lists.specs.Folds.{every}
+use Rattle.lists.specs.Order.{startsWith}
 use Rattle.lists.specs.Parts.{part, placed}
 use Rattle.lists.specs.Tables.{table}
 use Rattle.lists.proofs.Bools.{and-true}
-use Rattle.lists.proofs.Folds.{every-at}
+use Rattle.lists.proofs.Matching.{begins}
 use Rattle.lists.proofs.Laying.{onto-placed, onto-whole, Copying, copying-start, copying-long, copying-turn, copying-done}
 use Rattle.lists.proofs.Members.{getD-any}
 use Rattle.lists.proofs.Parts.{length-part}
@@ -31,22 +31,19 @@ use Rattle.cs_sum.proofs.Merged.{given, of-both}
 
 -- ---- `same_rows`
 module _ (l m : List ℕ) where
-  abbrev pub sameAt : ℕ → Bool
-  sameAt k = eqb (getD l k 0) (getD m k 0)
-
   pub longer : (length l ≡ length m → ⊥) → false ≡ sameRows l m
   unfolding sameRows
   longer h = rw (ne-eqb (length l) (length m) h)
 
-  pub as-long : length l ≡ length m → every (length l) sameAt ≡ sameRows l m
+  pub as-long : length l ≡ length m → startsWith l m ≡ sameRows l m
   unfolding sameRows
   as-long h = rw (eq-eqb (length l) (length m) h)
 
   pub same-are : sameRows l m ≡ true → l ≡ m
   unfolding sameRows
   same-are h =
-      let t = and-true (eqb (length l) (length m)) (every (length l) sameAt) h in
-      ext-getD 0 l m (eqb-true (length l) (length m) (t .0)) (λ k g. eqb-true (getD l k 0) (getD m k 0) (every-at (length l) sameAt (t .1) k g))
+      let t = and-true (eqb (length l) (length m)) (startsWith l m) h in
+      sym (begins l m (t .1)) ∙ take-all (length l) m (omega (arith, eqb-true (length l) (length m) (t .0)))
 
 -- ---- `add_values`
 -- the sum at place k

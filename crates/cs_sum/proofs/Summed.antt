@@ -22,7 +22,8 @@ use Rattle.cs_columns.proofs.Filling.{Filling, filling-start, filling-turn, fil
 use Rattle.cs_columns.proofs.Joining.{joined-none, length-more, joined-steps, joined-alike, entries-within, entries-valid}
 use Rattle.cs_columns.proofs.Judging.{early-two, Passed, passed, Roomy, roomy, short-fewer, short-for}
 use Rattle.cs_columns.proofs.Merging.{either-most}
-use Rattle.cs_sum.specs.Steps.{Risen, Column, Alike, Ready}
+use Rattle.cs_columns.specs.Columns.{Operands}
+use Rattle.cs_sum.specs.Steps.{Risen, Column, Ready}
 use Rattle.cs_sum.specs.Sum.{summedAt, rowOf, valueOf, sum, differ, number}
 
 -- ---- `differ`
@@ -65,13 +66,13 @@ module _ (nrows ncols : ℕ) (ap ai : List ℕ) (av : List Float) (bp bi : List 
     pub a-vals : e ≤ length av
     pub b-vals : d ≤ length bv
 
-  pub handed : Alike a b → {j x e c d : ℕ} → j < ncols → x ≡ getD ap j 0 → e ≡ getD ap (j + 1) 0 → c ≡ getD bp j 0 → d ≡ getD bp (j + 1) 0 → Handed j x e c d
+  pub handed : Operands a b → {j x e c d : ℕ} → j < ncols → x ≡ getD ap j 0 → e ≡ getD ap (j + 1) 0 → c ≡ getD bp j 0 → d ≡ getD bp (j + 1) 0 → Handed j x e c d
   handed v h f g k l =
       let s = between (v .first .pattern .ptrs) (v .first .pattern .p-long) h f g in
       let t = between (v .second .pattern .ptrs) (v .second .pattern .p-long) h k l in
       record { first = s; second = t; a-vals = omega (arith, s .inside, v .first .v-long); b-vals = omega (arith, t .inside, v .second .v-long) }
 
-  module _ (v : Alike a b) {j x e c d : ℕ} (h : j < ncols) (p : Handed j x e c d) where
+  module _ (v : Operands a b) {j x e c d : ℕ} (h : j < ncols) (p : Handed j x e c d) where
     a-rows : part x e ai ≡ column ap j ai
     a-rows = column-is (p .first) ai
 
@@ -109,11 +110,11 @@ module _ (nrows ncols : ℕ) (ap ai : List ℕ) (av : List Float) (bp bi : List 
 
   -- ---- `count`
   pub record Tallying (places j : ℕ) : Type 0 where
-    pub ask : Alike a b
+    pub ask : Operands a b
     pub within : j ≤ ncols
     pub is : places ≡ length (joined rows j)
 
-  pub tallying-start : Alike a b → Tallying 0 0
+  pub tallying-start : Operands a b → Tallying 0 0
   tallying-start v = record { ask = v; within = omega arith; is = sym (cong length (joined-none rows)) }
 
   module _ {places j : ℕ} (s : Tallying places j) where
@@ -131,7 +132,7 @@ module _ (nrows ncols : ℕ) (ap ai : List ℕ) (av : List Float) (bp bi : List 
     tallying-done h = let e : j ≡ ncols = omega (arith, s .within) in s .is ∙ cong (λ (k : ℕ). length (joined rows k)) e
 
   -- ---- `lacks_room`
-  module _ (v : Alike a b) where
+  module _ (v : Operands a b) where
     -- a column takes no more than the entries of both
     column-most : (j : ℕ) → j < ncols → length (rows j) + (getD ap j 0 + getD bp j 0) ≤ getD ap (j + 1) 0 + getD bp (j + 1) 0
     unfolding rowOf
@@ -260,7 +261,7 @@ module _ (n m : ℕ) (pa ia : List ℕ) (va : List Float) (k l : ℕ) (pb ib : L
       same : C ≡ B
       same = let s = same-dimensions n m k l (pass .agree) in λ q. matrix (s .0 q) (s .1 q) pb ib vb
 
-      pub alike : Alike A C
+      pub alike : Operands A C
       alike = record { first = pass .first; second = rw same (pass .second) }
 
       after-5 : lowest ((7, short (sum A B) old) ∷ []) ≡ number A B old

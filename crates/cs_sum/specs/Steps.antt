@@ -7,10 +7,9 @@ use lib.Dec.{eqb}
 use lib.Ieee.{Float}
 use lib.ListN.{length, getD}
 use Rattle.lists.specs.Choices.{chosen}
-use Rattle.lists.specs.Folds.{every}
-use Rattle.lists.specs.Order.{rises}
+use Rattle.lists.specs.Order.{rises, startsWith}
 use Rattle.cs_matrix.specs.Matrix.{Matrix, Stored, Valid}
-use Rattle.cs_columns.specs.Columns.{either, joined}
+use Rattle.cs_columns.specs.Columns.{either, joined, Operands}
 use Rattle.cs_sum.specs.Sum.{rowOf}
 
 -- two columns that rise, below the row count n
@@ -32,7 +31,7 @@ pub record Column (n at : ℕ) (ai : List ℕ) (av : List Float) (bi : List ℕ)
 
 -- the two lists have the same elements
 unfoldable pub sameRows : List ℕ → List ℕ → Bool
-sameRows l m = eqb (length l) (length m) && every (length l) (λ k. eqb (getD l k 0) (getD m k 0))
+sameRows l m = eqb (length l) (length m) && startsWith l m
 
 -- as many values as rows, and as many places for them
 pub record Places (rows : List ℕ) (av bv : List Float) (oi : List ℕ) (ov : List Float) : Type 0 where
@@ -41,14 +40,9 @@ pub record Places (rows : List ℕ) (av bv : List Float) (oi : List ℕ) (ov : L
   pub i-alike : length oi ≡ length rows
   pub v-alike : length ov ≡ length rows
 
--- two valid matrices
-pub record Alike (a b : Matrix) : Type 0 where
-  pub first : Valid a
-  pub second : Valid b
-
 -- and room for their sum
 pub record Ready (a b : Matrix) (out : Stored) : Type 0 where
-  pub alike : Alike a b
+  pub alike : Operands a b
   pub few : length (joined (λ j. chosen (a .pattern .nrows) (rowOf a b j)) (a .pattern .ncols)) ≤ 4194304
   pub in-p : a .pattern .ncols + 1 ≤ length (out .p)
   pub in-i : length (joined (λ j. chosen (a .pattern .nrows) (rowOf a b j)) (a .pattern .ncols)) ≤ length (out .i)

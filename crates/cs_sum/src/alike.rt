@@ -1,10 +1,11 @@
-// Two columns that have the same rows: how that is told, and their sum. Both loops run to the end, so that they can be vectorised.
+// Two columns that have the same rows: how that is told, and their sum.
 ghost use mathlib.Core.Path.{_≡_};
 ghost use lib.Ieee.{nan, binary64, add, mul};
 ghost use lib.ListN.{length, getD};
 ghost use Rattle.lists.specs.Tables.{table};
 ghost use Rattle.cs_sum.specs.Steps.{sameRows, Places};
 ghost use Rattle.cs_sum.specs.Sum.{one};
+use lists::order::starts_with;
 
 // The two columns have the same rows.
 pub fn same_rows(a: &[u32], b: &[u32]) -> bool
@@ -13,15 +14,7 @@ pub fn same_rows(a: &[u32], b: &[u32]) -> bool
     if a.len() != b.len() {
         return false;
     }
-    let mut bad: u32 = 0;
-    let mut k = 0;
-    while k < a.len() {
-        if a[k] != b[k] {
-            bad = 1;
-        }
-        k += 1;
-    }
-    bad == 0
+    starts_with(a, b)
 }
 
 // The rows, and the sums of two columns' values at them.

@@ -5,7 +5,8 @@ ghost use Rattle.lists.specs.Calls.{outputs};
 ghost use Rattle.lists.specs.Choices.{chosen};
 ghost use Rattle.cs_matrix.specs.Matrix.{matrix, stored, written, Valid};
 ghost use Rattle.cs_columns.specs.Columns.{joined, shortFor};
-ghost use Rattle.cs_sum.specs.Steps.{Alike, Ready};
+ghost use Rattle.cs_columns.specs.Columns.{Operands};
+ghost use Rattle.cs_sum.specs.Steps.{Ready};
 ghost use Rattle.cs_sum.specs.Sum.{rowOf, sum as sumOf, differ as differOf, number};
 use crate::merge::count_rows;
 use crate::merge::merge;
@@ -34,7 +35,7 @@ fn count(
     bi: &[u32],
     bv: &[f64],
 ) -> usize
-    requires { ⌜ Alike (matrix nrows ncols (now ap) (now ai) (now av)) (matrix nrows ncols (now bp) (now bi) (now bv)) ⌝ }
+    requires { ⌜ Operands (matrix nrows ncols (now ap) (now ai) (now av)) (matrix nrows ncols (now bp) (now bi) (now bv)) ⌝ }
     ensures { λ r. ⌜ (let a = matrix nrows ncols (now (ap .entry)) (now (ai .entry)) (now (av .entry)) in
         let b = matrix nrows ncols (now (bp .entry)) (now (bi .entry)) (now (bv .entry)) in
         r ≡ length (joined (λ j. chosen nrows (rowOf a b j)) ncols)) ⌝ }
@@ -64,7 +65,7 @@ fn lacks_room(
     ilen: usize,
     vlen: usize,
 ) -> bool
-    requires { ⌜ Alike (matrix nrows ncols (now ap) (now ai) (now av)) (matrix nrows ncols (now bp) (now bi) (now bv)) ⌝ }
+    requires { ⌜ Operands (matrix nrows ncols (now ap) (now ai) (now av)) (matrix nrows ncols (now bp) (now bi) (now bv)) ⌝ }
     ensures { λ r. ⌜ (let a = matrix nrows ncols (now (ap .entry)) (now (ai .entry)) (now (av .entry)) in
         let b = matrix nrows ncols (now (bp .entry)) (now (bi .entry)) (now (bv .entry)) in
         r ≡ shortFor ncols (length (joined (λ j. chosen nrows (rowOf a b j)) ncols)) plen ilen vlen) ⌝ }

@@ -18,7 +18,8 @@ use Rattle.lists.proofs.Members.{lists-append, getD-any}
 use Rattle.lists.proofs.Parts.{left-at, length-part, getD-part}
 use Rattle.cs_tree.specs.Tree.{root}
 use Rattle.cs_tree.specs.Pattern.{path, paths, upper, entries}
-use Rattle.cs_tree.specs.Steps.{Marks, Walks, Zeros, Given, way}
+use Rattle.lists.specs.Keeping.{Zeros}
+use Rattle.cs_tree.specs.Steps.{Marks, Walks, Given, way}
 use Rattle.cs_tree.specs.Backward.{Stops, Read, Holds}
 use Rattle.cs_tree.proofs.Filling.{given-column, upper-long}
 use Rattle.cs_tree.proofs.Laid.{entries-more, laid-at}

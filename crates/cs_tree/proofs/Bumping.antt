@@ -15,12 +15,14 @@ use Rattle.lists.specs.Sums.{bumped, counted}
 use Rattle.lists.proofs.Keeping.{kept-all, kept-then, kept-wider}
 use Rattle.lists.proofs.Members.{getD-any}
 use Rattle.lists.proofs.Recounting.{counted-append, counted-front, counted-none, counted-one}
+use Rattle.lists.proofs.Positions.{flatten-last}
 use Rattle.cs_tree.specs.Tree.{root}
 use Rattle.cs_tree.specs.Pattern.{path, paths, upper, entries}
-use Rattle.cs_tree.specs.Steps.{Marks, Walks, Walked, way, Zeros, Given}
+use Rattle.lists.specs.Keeping.{Zeros}
+use Rattle.cs_tree.specs.Steps.{Marks, Walks, Walked, way, Given}
 use Rattle.cs_tree.specs.Bumps.{Bumped, Tallied}
 use Rattle.cs_tree.proofs.Filling.{given-column, column-short, upper-long}
-use Rattle.cs_tree.proofs.Laid.{entries-more, entries-part, flatten-more}
+use Rattle.cs_tree.proofs.Laid.{entries-more, entries-part}
 use Rattle.cs_tree.proofs.Steps.{path-over, path-seen, path-new}
 use Rattle.cs_tree.proofs.Walking.{marks-fresh, marks-next, Walk, walk-start, walk-up, walk-next, walk-seen, walk-over, not-done, walks-on, Listing, listing-start, listing-turn, listing-done, listing-all}
 
@@ -180,7 +182,7 @@ module _ {cols : List (List ℕ)} {par counts₀ mark counts : List ℕ} {total 
         let s : take (k + 1) (upper cols) ≡ take k (upper cols) ++ (getD (upper cols) k [] ∷ []) = rw add-one (take-suc (upper cols) k [] (rw (upper-long g) h)) in
         r .are ∙ ap (λ (d : List ℕ). counted d counts) column-is ∙ ap (counted (getD (upper cols) k [])) (v .are)
         ∙ sym (counted-append (flatten (take k (upper cols))) (getD (upper cols) k []) counts₀)
-        ∙ ap (λ (d : List ℕ). counted d counts₀) (sym (ap flatten s ∙ flatten-more (take k (upper cols)) (getD (upper cols) k [])))
+        ∙ ap (λ (d : List ℕ). counted d counts₀) (sym (ap flatten s ∙ flatten-last (take k (upper cols)) (getD (upper cols) k [])))
 
     pub totting-turn : total + c ≤ 4194304 → Totting cols counts₀ mark1 counts1 (total + c) (k + 1)
     totting-turn f =

@@ -17,7 +17,8 @@ use Rattle.lists.proofs.Keys.{keys-whole}
 use Rattle.lists.proofs.Parts.{front, left-at, left-none, length-onto}
 use Rattle.lists.proofs.Receding.{Ends, Receding, receding-start, receding-in-w, receding-some, receding-in-out, receding-turn, receding-done}
 use Rattle.cs_tree.specs.Pattern.{paths, upper, lower, transposed, starts, entries}
-use Rattle.cs_tree.specs.Steps.{Marks, Walks, Zeros, Given, numbers}
+use Rattle.lists.specs.Keeping.{Zeros}
+use Rattle.cs_tree.specs.Steps.{Marks, Walks, Given, numbers}
 use Rattle.cs_tree.specs.Falling.{Reached, Last, Left, Ending, Ample}
 use Rattle.cs_tree.proofs.Count.{length-starts}
 use Rattle.cs_tree.proofs.Filling.{fits, given-walks, given-column, upper-long}

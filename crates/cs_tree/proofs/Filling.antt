@@ -14,7 +14,8 @@ use Rattle.lists.proofs.Laying.{onto-placed}
 use Rattle.lists.proofs.Parts.{onto-none, length-onto, length-part}
 use Rattle.cs_tree.specs.Tree.{root}
 use Rattle.cs_tree.specs.Pattern.{paths, upperColumn, upper, entries}
-use Rattle.cs_tree.specs.Steps.{Marks, Walks, Zeros, Given, Pointed, lengths}
+use Rattle.lists.specs.Keeping.{Zeros}
+use Rattle.cs_tree.specs.Steps.{Marks, Walks, Given, Pointed, lengths}
 use Rattle.cs_tree.proofs.Count.{upperColumn-short}
 use Rattle.cs_tree.proofs.Growing.{tree-long, tree-above}
 use Rattle.cs_tree.proofs.Laid.{entries-more, entries-part, length-lengths, lengths-at, length-laid}

@@ -6,6 +6,8 @@ use Prim.Native.Nat.{ℕ, _+_, _≤_, _<_}
 use native.Mathlib.Numerals.{add-one}
 use native.Mathlib.Omega.{arith}
 use lib.ListN.{length, getD, replicate}
+use Rattle.lists.specs.Calls.{cleared}
+use Rattle.lists.proofs.Clearing.{cleared-all}
 use Rattle.lists.proofs.Bools.{eq-or-ne}
 use Rattle.lists.proofs.Members.{getD-any}
 use Rattle.cs_tree.specs.Tree.{root, Forest, forest, climbs, treeTo, tree}
@@ -30,9 +32,13 @@ pub record Growing (cols : List (List ℕ)) (par anc : List ℕ) (k : ℕ) : Typ
   pub within : k ≤ length cols
   pub is : forest par anc ≡ treeTo cols k
 
-pub growing-start : (cols : List (List ℕ)) {par anc : List ℕ} {m n : ℕ} → length cols ≤ root → m ≡ length cols → n ≡ length cols → par ≡ replicate m root → anc ≡ replicate n root → Growing cols par anc 0
+pub growing-start : (cols : List (List ℕ)) {n : ℕ} (p a : List ℕ) {par anc : List ℕ} → length cols ≤ root → n ≡ length cols → length p ≡ n → length a ≡ n → par ≡ cleared root n p → anc ≡ cleared root n a → Growing cols par anc 0
 unfolding treeTo
-growing-start cols h a b e f = record { fits = h; within = omega arith; is = rw (e, f, a, b) }
+growing-start cols {n} p a h l b c e f =
+    let x : replicate n root ≡ replicate (length cols) root = ap (λ (k : ℕ). replicate k root) l in
+    let y = e ∙ cleared-all root n p b ∙ x in
+    let z = f ∙ cleared-all root n a c ∙ x in
+    record { fits = h; within = omega arith; is = rw (y, z) }
 
 module _ {cols : List (List ℕ)} {par anc : List ℕ} {k : ℕ} (v : Growing cols par anc k) where
   pub par-long : length par ≡ length cols

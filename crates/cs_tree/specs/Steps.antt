@@ -62,10 +62,6 @@ unfoldable pub numbers : ℕ → List (List ℕ) → List ℕ
 numbers b [] = []
 numbers b (c ∷ cs) = replicate (length c) b ++ numbers (suc b) cs
 
--- nothing but zeros
-pub record Zeros (l : List ℕ) : Type 0 where
-  pub at : (i : ℕ) → i < length l → getD l i 0 ≡ 0
-
 -- the tree is known
 pub record Given (cols : List (List ℕ)) (par : List ℕ) : Type 0 where
   pub small : length cols ≤ 65535

@@ -13,7 +13,8 @@ use Rattle.cs_tree.specs.Pattern.{path, paths, upperColumn, upper, across, tran
 use Rattle.cs_tree.specs.Tree.{root, climb, climbs, treeTo, tree}
 use Rattle.cs_pattern.specs.Analyse.{short as cs-pattern-Analyse-short, written as cs-pattern-Analyse-written, number}
 use Rattle.cs_pattern.specs.Columns.{columns}
-use Rattle.cs_pattern.specs.Compare.{startsWith, same, tight, number as cs-pattern-Compare-number}
+use Rattle.lists.specs.Order.{startsWith}
+use Rattle.cs_pattern.specs.Compare.{same, tight, number as cs-pattern-Compare-number}
 use Rattle.cs_cholesky.specs.Factor.{factor, judgedFactor, answer, written as cs-cholesky-Factor-written}
 use Rattle.cs_left.specs.Left.{putAt, addAt, addColumn, addColumns, leftX, quotients, leftStep, left, stray, strays, number as cs-left-Left-number}
 use Rattle.cs_up.specs.Up.{putAt as cs-up-Up-putAt, subAt, rowAt, rowsAt, startAt, upStep, up, number as cs-up-Up-number}

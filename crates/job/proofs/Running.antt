@@ -23,9 +23,10 @@ use Rattle.cs_tree.proofs.Count.{length-starts}
 use Rattle.cs_tree.proofs.Laid.{length-laid, start-at}
 use Rattle.cs_tree.proofs.Promises.{promised}
 use Rattle.cs_pattern.specs.Columns.{columns}
-use Rattle.cs_pattern.specs.Compare.{startsWith, same, tight}
+use Rattle.lists.specs.Order.{startsWith}
+use Rattle.cs_pattern.specs.Compare.{same, tight}
 use Rattle.cs_pattern.proofs.Columns.{length-columns}
-use Rattle.cs_pattern.proofs.Matching.{begins, starts-itself, starts-long, starts-at}
+use Rattle.lists.proofs.Matching.{begins, starts-itself, starts-long, starts-at}
 use Rattle.cs_cholesky.specs.declared.Factored.{Factored}
 use Rattle.cs_cholesky.specs.Factor.{Outcome, factored as plain, judgedFactor, answer, written}
 use Rattle.cs_cholesky.proofs.Factoring.{factor-ends}

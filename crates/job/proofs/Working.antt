@@ -9,9 +9,10 @@ use Rattle.lists.specs.Calls.{onto}
 use Rattle.cs_matrix.specs.Matrix.{Matrix, stored}
 use Rattle.cs_tree.specs.Pattern.{Analysis, analysis, analysed}
 use Rattle.cs_pattern.specs.Columns.{columns}
-use Rattle.cs_pattern.specs.Compare.{startsWith, same}
+use Rattle.lists.specs.Order.{startsWith}
+use Rattle.cs_pattern.specs.Compare.{same}
 use Rattle.cs_pattern.specs.Analyse.{written}
-use Rattle.cs_pattern.proofs.Matching.{starts-itself}
+use Rattle.lists.proofs.Matching.{starts-itself}
 use Rattle.cs_conversion.specs.Assembly.{Triplets, triplets, assembled, Assembled}
 use Rattle.cs_solve.specs.declared.Solved.{Solved}
 use Rattle.job_prepare.specs.Prepare.{number, Outputs, leaves}

@@ -37,10 +37,12 @@ module _ {A : Type 0} (z : A) where
   cleared-at (suc n) (x ∷ l) (suc k) d h g = cleared-at n l k d (omega arith) (omega arith)
 
   -- a whole list
-  pub cleared-all : (l : List A) → cleared z (length l) l ≡ replicate (length l) z
+  pub cleared-all : (n : ℕ) (l : List A) → length l ≡ n → cleared z n l ≡ replicate n z
   unfolding cleared
-  cleared-all [] = refl
-  cleared-all (x ∷ l) = ap (λ (t : List A). z ∷ t) (cleared-all l)
+  cleared-all zero [] e = refl
+  cleared-all zero (x ∷ l) e = absurd (omega arith)
+  cleared-all (suc n) [] e = absurd (omega arith)
+  cleared-all (suc n) (x ∷ l) e = ap (λ (t : List A). z ∷ t) (cleared-all n l (omega arith))
 
   -- two lists that differ in the first n places only
   pub cleared-same : (n : ℕ) (l d : List A) → length l ≡ length d → ((q : ℕ) → n ≤ q → getD l q z ≡ getD d q z) → cleared z n l ≡ cleared z n d

@@ -35,3 +35,4 @@ pub mod Standing
 pub mod Finding
 pub mod Recounting
 pub mod Receding
+pub mod Matching

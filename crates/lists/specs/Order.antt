@@ -1,6 +1,6 @@
--- Lists of numbers: strictly rising, each number once, and whether a number is listed. `rises` and `lists` are the tests that
--- definitions compute with, `Rising` and `Once` the facts that proofs pass on. Assumes nothing.
-use mathlib.Core.Bool.{Bool, false, _||_}
+-- Lists of numbers: strictly rising, each number once, whether a number is listed, and whether a list starts with another. `rises`,
+-- `lists` and `startsWith` are the tests that definitions compute with, `Rising` and `Once` the facts that proofs pass on. Assumes nothing.
+use mathlib.Core.Bool.{Bool, true, false, _&&_, _||_}
 use mathlib.Core.List.{List, [], _∷_, List·Memᴰ}
 use Prim.Native.Nat.{ℕ, suc, _+_, _-_, _≤_}
 use lib.Dec.{ltb, eqb}
@@ -19,6 +19,12 @@ allBelow l n = every (length l) (λ k. ltb (getD l k 0) n)
 unfoldable pub lists : ℕ → List ℕ → Bool
 lists x [] = false
 lists x (y ∷ ys) = eqb x y || lists x ys
+
+-- the slice l holds xs in its front: a short slice does not, and what stands behind does not matter
+unfoldable pub startsWith : List ℕ → List ℕ → Bool
+startsWith [] l = true
+startsWith (x ∷ xs) [] = false
+startsWith (x ∷ xs) (y ∷ l) = eqb x y && startsWith xs l
 
 -- each is below the next, and none is below b
 pub data Rising : ℕ → List ℕ → Type 0 where

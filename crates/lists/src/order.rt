@@ -1,6 +1,6 @@
-// A test on a list of numbers.
+// Tests on lists of numbers, which look at every element, so that several are looked at at a time.
 ghost use mathlib.Core.Path.{_≡_};
-ghost use Rattle.lists.specs.Order.{allBelow};
+ghost use Rattle.lists.specs.Order.{allBelow, startsWith};
 
 // Every one is below n.
 pub fn all_below(l: &[u32], n: u32) -> bool
@@ -15,4 +15,22 @@ pub fn all_below(l: &[u32], n: u32) -> bool
         k += 1;
     }
     bad == 0
+}
+
+// The slice b starts with what a holds.
+pub fn starts_with(a: &[u32], b: &[u32]) -> bool
+    ensures { λ r. ⌜ r ≡ startsWith (now (a .entry)) (now (b .entry)) ⌝ }
+{
+    if b.len() < a.len() {
+        return false;
+    }
+    let mut apart: u32 = 0;
+    let mut q = 0;
+    while q < a.len() {
+        if a[q] != b[q] {
+            apart = 1;
+        }
+        q += 1;
+    }
+    apart == 0
 }

@@ -1,3 +1,4 @@
+-- `compare` meets its contract. Assumes nothing.
 use Rattle.cs_pattern.proofs.Judging.{at-refused, decide-asked, at-end}
 use mathlib.Core.Path.{_∙_}
 use native.Mathlib.Omega.{arith}
@@ -6,65 +7,46 @@ use Rattle.cs_matrix.proofs.Squaring.{prepared}
 use borrow.Author.Needs.{needs}
 use Rattle.cs_pattern.proofs.compare.compare.Statement.{statement}
 use Rattle.cs_pattern.proofs.compare.compare.Tie as tie
-use Rattle.cs_pattern.proofs.compare.compare.Reads as reads
-use Rattle.cs_pattern.proofs.compare.compare.Lts as lts
-use Rattle.cs_pattern.proofs.compare.decide.Reads as decide-reads
-use Rattle.cs_matrix.proofs.square.prepare.Reads as prepare-reads
-use Rattle.lists.proofs.clear.clear_scratch.Reads as clear-scratch-reads
 
--- src/compare.rt:215:9
 prepare-requires : tie.Need-prepare-requires
 prepare-requires c κs = search needs
 
--- src/compare.rt:217:9
 same-length : tie.Need-same-length
 same-length c = c .before .before .before .before .before .before .before .before .before .prepare .kept .1 .1 .1 .1 .0
 
--- src/compare.rt:217:9
 same-length-2 : tie.Need-same-length-2
 same-length-2 c = c .before .before .before .before .before .before .before .before .before .prepare .kept .1 .1 .1 .1 .1 .0
 
--- src/compare.rt:217:9
 same-length-3 : tie.Need-same-length-3
 same-length-3 c = c .before .before .before .before .before .before .before .before .before .prepare .kept .1 .1 .1 .1 .1 .1 .0
 
--- src/compare.rt:217:9
 same-length-4 : tie.Need-same-length-4
 same-length-4 c = c .before .before .before .before .before .before .before .before .before .prepare .kept .1 .1 .1 .1 .1 .1 .1 .0
 
--- src/compare.rt:217:9
 returns : tie.Need-returns
 returns c = at-refused _ _ _ _ _ (c .before .before .before .before .before .before .before .before .before .prepare .ensures) (c .if1 .taken)
 
--- src/compare.rt:219:9
 decide-requires : tie.Need-decide-requires
 decide-requires c κs = decide-asked (prepared _ _ _ (c .before .before .before .before .before .before .before .before .before .before .before .before .prepare .ensures) (c .before .before .before .if1 .left))
 
--- src/compare.rt:220:19
 add-clear-scratch : tie.Need-add-clear-scratch
 add-clear-scratch c = record { fits = omega (arith, square-valid (prepared _ _ _ (c .before .before .before .before .before .before .before .before .before .before .before .before .before .before .before .before .before .before .before .prepare .ensures) (c .before .before .before .before .before .before .before .before .before .before .if1 .left)) .cols) }
 
--- src/compare.rt:220:5
 clear-scratch-requires : tie.Need-clear-scratch-requires
 clear-scratch-requires c κs = search needs
 
--- src/compare.rt:193:1
 same-length-5 : tie.Need-same-length-5
 same-length-5 c = c .before .before .before .before .before .before .before .before .clear-scratch .kept .1 .0 ∙ c .before .before .before .before .before .before .before .before .before .before .before .before .before .before .before .before .before .before .before .decide .kept .1 .1 .1 .1 .1 .1 .1 .1 .1 .0 ∙ c .before .before .before .before .before .before .before .before .before .before .before .before .before .before .before .before .before .before .before .before .before .before .before .before .before .before .before .before .before .before .before .before .prepare .kept .1 .1 .1 .1 .0
 
--- src/compare.rt:193:1
 same-length-6 : tie.Need-same-length-6
 same-length-6 c = c .before .before .before .before .before .before .before .before .clear-scratch .kept .1 .1 .0 ∙ c .before .before .before .before .before .before .before .before .before .before .before .before .before .before .before .before .before .before .before .decide .kept .1 .1 .1 .1 .1 .1 .1 .1 .1 .1 .0 ∙ c .before .before .before .before .before .before .before .before .before .before .before .before .before .before .before .before .before .before .before .before .before .before .before .before .before .before .before .before .before .before .before .before .prepare .kept .1 .1 .1 .1 .1 .0
 
--- src/compare.rt:193:1
 same-length-7 : tie.Need-same-length-7
 same-length-7 c = c .before .before .before .before .before .before .before .before .clear-scratch .kept .1 .1 .1 .0 ∙ c .before .before .before .before .before .before .before .before .before .before .before .before .before .before .before .before .before .before .before .decide .kept .1 .1 .1 .1 .1 .1 .1 .1 .1 .1 .1 .0 ∙ c .before .before .before .before .before .before .before .before .before .before .before .before .before .before .before .before .before .before .before .before .before .before .before .before .before .before .before .before .before .before .before .before .prepare .kept .1 .1 .1 .1 .1 .1 .0
 
--- src/compare.rt:193:1
 same-length-8 : tie.Need-same-length-8
 same-length-8 c = c .before .before .before .before .before .before .before .before .clear-scratch .kept .1 .1 .1 .1 .0 ∙ c .before .before .before .before .before .before .before .before .before .before .before .before .before .before .before .before .before .before .before .before .before .before .before .before .before .before .before .before .before .before .before .before .prepare .kept .1 .1 .1 .1 .1 .1 .1 .0
 
--- src/compare.rt:193:1
 returns-2 : tie.Need-returns-2
 returns-2 c = at-end (prepared _ _ _ (c .before .before .before .before .before .before .before .before .before .before .before .before .before .before .before .before .before .before .before .before .before .before .before .before .before .before .before .before .before .before .before .before .prepare .ensures) (c .before .before .before .before .before .before .before .before .before .before .before .before .before .before .before .before .before .before .before .before .before .before .before .if1 .left)) _ _ (c .before .before .before .before .before .before .before .before .before .before .before .before .before .before .before .before .before .before .before .decide .ensures) (c .before .before .before .before .before .before .before .before .clear-scratch .ensures)
 

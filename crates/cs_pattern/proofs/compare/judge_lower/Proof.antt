@@ -1,34 +1,26 @@
+-- `judge_lower` meets its contract. Assumes nothing.
 use borrow.Author.Tests.{not-true, not-false}
 use Rattle.cs_pattern.proofs.Deciding.{lower-tight, lower-differs, lower-none}
 use Rattle.lists.proofs.Keeping.{kept-all}
 use borrow.Author.Needs.{needs}
 use Rattle.cs_pattern.proofs.compare.judge_lower.Statement.{statement}
 use Rattle.cs_pattern.proofs.compare.judge_lower.Tie as tie
-use Rattle.cs_pattern.proofs.compare.judge_lower.Reads as reads
-use Rattle.cs_pattern.proofs.compare.judge_lower.Lts as lts
-use Rattle.cs_pattern.proofs.look.look.Reads as look-reads
 
--- src/compare.rt:42:9
 returns : tie.Need-returns
 returns c = (lower-tight (c .before .before .before .before .before .before .args .room) (c .before .before .before .before .before .before .args .lp .now) (c .before .before .before .before .before .before .args .li .now) (c .if1 .taken), kept-all _ _)
 
--- src/compare.rt:44:9
 look-requires : tie.Need-look-requires
 look-requires c κs = search needs
 
--- src/compare.rt:45:9
 same-length : tie.Need-same-length
 same-length c = search needs
 
--- src/compare.rt:45:9
 returns-2 : tie.Need-returns-2
 returns-2 c = (lower-differs (c .before .before .before .before .before .before .before .before .before .before .before .args .room) (c .before .before .before .before .before .before .before .before .before .before .before .args .lp .now) (c .before .before .before .before .before .before .before .before .before .before .before .args .li .now) (c .before .before .before .before .before .if1 .left) (c .before .before .before .look .ensures .0) (not-true _ (c .if2 .taken)), c .before .before .before .look .ensures .1)
 
--- src/compare.rt:26:1
 same-length-2 : tie.Need-same-length-2
 same-length-2 c = search needs
 
--- src/compare.rt:26:1
 returns-3 : tie.Need-returns-3
 returns-3 c = (lower-none (c .before .before .before .before .before .before .before .before .before .before .before .args .room) (c .before .before .before .before .before .before .before .before .before .before .before .args .lp .now) (c .before .before .before .before .before .before .before .before .before .before .before .args .li .now) (c .before .before .before .before .before .if1 .left) (c .before .before .before .look .ensures .0) (not-false _ (c .if2 .left)), c .before .before .before .look .ensures .1)
 

@@ -1,3 +1,4 @@
+-- `count_column` meets its contract. Assumes nothing.
 use Rattle.cs_tree.proofs.Bumping.{Rowing, rowing-start, rowing-turn, rowing-done}
 use native.Mathlib.Omega.{arith}
 use lib.ListN.{length}
@@ -5,9 +6,6 @@ use Prim.Native.Nat.{_-_, _≤_}
 use borrow.Author.Needs.{needs}
 use Rattle.cs_pattern.proofs.count.count_column.Statement.{statement}
 use Rattle.cs_pattern.proofs.count.count_column.Tie as tie
-use Rattle.cs_pattern.proofs.count.count_column.Reads as reads
-use Rattle.cs_pattern.proofs.count.count_column.Lts as lts
-use Rattle.cs_pattern.proofs.count.count_walk.Reads as count-walk-reads
 
 abbrev Inv-loop : tie.InvT-loop
 Inv-loop k rows par mark₀ counts₀ count₀ q₀ mark counts count q = Rowing k par rows mark₀ mark counts₀ counts count q × (length rows ≤ 4194304)
@@ -15,47 +13,36 @@ Inv-loop k rows par mark₀ counts₀ count₀ q₀ mark counts count q = Rowing
 abbrev μ-loop : tie.MeasureT-loop
 μ-loop k rows par mark₀ counts₀ count₀ q₀ mark counts count q = length rows - q
 
--- src/count.rt:47:5
 loop-holds : tie.Need-loop-holds Inv-loop μ-loop
 loop-holds c = (rowing-start _ (c .before .before .before .before .pre .0) (c .before .before .before .before .pre .1) (c .before .before .before .before .pre .3), c .before .before .before .before .pre .2)
 
--- src/count.rt:48:32
 mul-count-walk : tie.Need-mul-count-walk Inv-loop μ-loop
 mul-count-walk c = search needs
 
--- src/count.rt:48:32
 shared-slice-read-count-walk : tie.Need-shared-slice-read-count-walk Inv-loop μ-loop
 shared-slice-read-count-walk c = search needs
 
--- src/count.rt:48:18
 count-walk-requires : tie.Need-count-walk-requires Inv-loop μ-loop
 count-walk-requires c κs = (c .before .before .before .before .loop .inv .0 .asks, c .before .before .before .before .loop .inv .0 .wide)
 
--- src/count.rt:48:9
 add-count : tie.Need-add-count Inv-loop μ-loop
 add-count c = search needs
 
--- src/count.rt:49:9
 add-q : tie.Need-add-q Inv-loop μ-loop
 add-q c = search needs
 
--- src/count.rt:47:5
 loop-less : tie.Need-loop-less Inv-loop μ-loop
 loop-less c = search needs
 
--- src/count.rt:47:5
 loop-again : tie.Need-loop-again Inv-loop μ-loop
 loop-again c = (rowing-turn (c .before .before .before .before .before .before .before .before .before .loop .inv .0) (c .before .before .before .before .before .before .before .before .loop-test .taken) (c .before .before .before .before .count-walk .kept .1 .1 .1 .0) (c .before .before .before .before .count-walk .ensures), c .before .before .before .before .before .before .before .before .before .loop .inv .1)
 
--- src/count.rt:41:1
 same-length : tie.Need-same-length Inv-loop μ-loop
 same-length c = search needs
 
--- src/count.rt:41:1
 same-length-2 : tie.Need-same-length-2 Inv-loop μ-loop
 same-length-2 c = search needs
 
--- src/count.rt:41:1
 returns : tie.Need-returns Inv-loop μ-loop
 returns c = rowing-done (c .before .loop .inv .0) (c .loop-test .left)
 

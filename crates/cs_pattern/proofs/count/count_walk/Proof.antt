@@ -1,13 +1,10 @@
+-- `count_walk` meets its contract. Assumes nothing.
 use Rattle.cs_tree.proofs.Bumping.{Bumping, bumping-start, bump-up, bumping-seen, bumping-next, bumping-over}
 use native.Mathlib.Omega.{arith}
 use Prim.Native.Nat.{_+_, _-_}
 use borrow.Author.Needs.{needs}
 use Rattle.cs_pattern.proofs.count.count_walk.Statement.{statement}
 use Rattle.cs_pattern.proofs.count.count_walk.Tie as tie
-use Rattle.cs_pattern.proofs.count.count_walk.Reads as reads
-use Rattle.cs_pattern.proofs.count.count_walk.Lts as lts
-use Rattle.lists.proofs.numbers.wide.Reads as wide-reads
-use Rattle.std.proofs.num.wrapping_add_u32.Reads as wrapping-add-u32-reads
 
 abbrev Inv-loop : tie.InvT-loop
 Inv-loop k row par mark₀ counts₀ top stamp i₀ len₀ mark counts i len = Bumping k par row mark₀ mark counts₀ counts i len
@@ -15,103 +12,78 @@ Inv-loop k row par mark₀ counts₀ top stamp i₀ len₀ mark counts i len = B
 abbrev μ-loop : tie.MeasureT-loop
 μ-loop k row par mark₀ counts₀ top stamp i₀ len₀ mark counts i len = k + 1 - i
 
--- src/count.rt:24:9
 wide-requires : tie.Need-wide-requires Inv-loop μ-loop
 wide-requires c κs = search needs
 
--- src/count.rt:25:17
 add-stamp : tie.Need-add-stamp Inv-loop μ-loop
 add-stamp c = search needs
 
--- src/count.rt:26:9
 wide-requires-2 : tie.Need-wide-requires-2 Inv-loop μ-loop
 wide-requires-2 c κs = search needs
 
--- src/count.rt:28:5
 loop-holds : tie.Need-loop-holds Inv-loop μ-loop
 loop-holds c = bumping-start (c .before .before .before .before .before .pre .0) (c .before .before .before .before .before .pre .1) (c .wide2 .ensures .0)
 
--- src/count.rt:29:12
 mul-if1 : tie.Need-mul-if1 Inv-loop μ-loop
 mul-if1 c = search needs
 
--- src/count.rt:29:12
 slice-read-if1 : tie.Need-slice-read-if1 Inv-loop μ-loop
 slice-read-if1 c = search needs
 
--- src/count.rt:30:13
 same-length : tie.Need-same-length Inv-loop μ-loop
 same-length c = search needs
 
--- src/count.rt:30:13
 same-length-2 : tie.Need-same-length-2 Inv-loop μ-loop
 same-length-2 c = search needs
 
--- src/count.rt:30:13
 returns : tie.Need-returns Inv-loop μ-loop
 returns c = bumping-seen (c .before .before .before .loop .inv) (omega arith) (c .if1 .taken)
 
--- src/count.rt:32:9
 mul-mark : tie.Need-mul-mark Inv-loop μ-loop
 mul-mark c = search needs
 
--- src/count.rt:32:9
 slice-write-mark : tie.Need-slice-write-mark Inv-loop μ-loop
 slice-write-mark c = search needs
 
--- src/count.rt:33:38
 mul-wrapping-add-u32 : tie.Need-mul-wrapping-add-u32 Inv-loop μ-loop
 mul-wrapping-add-u32 c = search needs
 
--- src/count.rt:33:38
 slice-read-wrapping-add-u32 : tie.Need-slice-read-wrapping-add-u32 Inv-loop μ-loop
 slice-read-wrapping-add-u32 c = search needs
 
--- src/count.rt:33:21
 wrapping-add-u32-requires : tie.Need-wrapping-add-u32-requires Inv-loop μ-loop
 wrapping-add-u32-requires c κs = search needs
 
--- src/count.rt:33:9
 mul-counts : tie.Need-mul-counts Inv-loop μ-loop
 mul-counts c = search needs
 
--- src/count.rt:33:9
 slice-write-counts : tie.Need-slice-write-counts Inv-loop μ-loop
 slice-write-counts c = search needs
 
--- src/count.rt:34:9
 add-len : tie.Need-add-len Inv-loop μ-loop
 add-len c = search needs
 
--- src/count.rt:35:18
 mul-wide : tie.Need-mul-wide Inv-loop μ-loop
 mul-wide c = search needs
 
--- src/count.rt:35:18
 shared-slice-read-wide : tie.Need-shared-slice-read-wide Inv-loop μ-loop
 shared-slice-read-wide c = search needs
 
--- src/count.rt:35:9
 wide-requires-3 : tie.Need-wide-requires-3 Inv-loop μ-loop
 wide-requires-3 c κs = search needs
 
--- src/count.rt:28:5
 loop-less : tie.Need-loop-less Inv-loop μ-loop
 loop-less c = omega (arith, bump-up (c .before .before .before .before .before .before .before .loop .inv) (omega arith))
 
--- src/count.rt:28:5
 loop-again : tie.Need-loop-again Inv-loop μ-loop
 loop-again c = bumping-next (c .before .before .before .before .before .before .before .loop .inv) (omega arith) (c .before .before .before .before .if1 .left) (c .wide3 .ensures .0) (c .before .before .wrapping-add-u32 .ensures)
 
--- src/count.rt:20:1
 same-length-3 : tie.Need-same-length-3 Inv-loop μ-loop
 same-length-3 c = search needs
 
--- src/count.rt:20:1
 same-length-4 : tie.Need-same-length-4 Inv-loop μ-loop
 same-length-4 c = search needs
 
--- src/count.rt:20:1
 returns-2 : tie.Need-returns-2 Inv-loop μ-loop
 returns-2 c = bumping-over (c .before .loop .inv) (omega arith)
 

@@ -1,3 +1,4 @@
+-- `look_column` meets its contract. Assumes nothing.
 use Rattle.cs_pattern.proofs.Finding.{looked-past, looked-differs, looked-agrees}
 use Rattle.cs_tree.proofs.Spreading.{Going, going-start, going-same, going-done}
 use Rattle.cs_tree.proofs.Looking.{Looking, looking-start, looking-in, looking-turn, looking-done}
@@ -9,9 +10,6 @@ use mathlib.Core.Path.{sym}
 use borrow.Author.Needs.{needs}
 use Rattle.cs_pattern.proofs.look.look_column.Statement.{statement}
 use Rattle.cs_pattern.proofs.look.look_column.Tie as tie
-use Rattle.cs_pattern.proofs.look.look_column.Reads as reads
-use Rattle.cs_pattern.proofs.look.look_column.Lts as lts
-use Rattle.lists.proofs.numbers.wide.Reads as wide-reads
 
 abbrev Inv-loop : tie.InvT-loop
 Inv-loop k rows next₀ li q₀ next q = Looking k rows li next₀ next q × Going k rows next₀ li next li q
@@ -19,94 +17,72 @@ Inv-loop k rows next₀ li q₀ next q = Looking k rows li next₀ next q × Goi
 abbrev μ-loop : tie.MeasureT-loop
 μ-loop k rows next₀ li q₀ next q = length rows - q
 
--- src/look.rt:24:5
 loop-holds : tie.Need-loop-holds Inv-loop μ-loop
 loop-holds c = (looking-start (c .before .before .before .pre .0) (c .before .before .before .pre .1), going-start)
 
--- src/look.rt:25:22
 mul-wide : tie.Need-mul-wide Inv-loop μ-loop
 mul-wide c = search needs
 
--- src/look.rt:25:22
 shared-slice-read-wide : tie.Need-shared-slice-read-wide Inv-loop μ-loop
 shared-slice-read-wide c = search needs
 
--- src/look.rt:25:13
 wide-requires : tie.Need-wide-requires Inv-loop μ-loop
 wide-requires c κs = search needs
 
--- src/look.rt:26:22
 mul-wide-2 : tie.Need-mul-wide-2 Inv-loop μ-loop
 mul-wide-2 c = search needs
 
--- src/look.rt:26:22
 slice-read-wide : tie.Need-slice-read-wide Inv-loop μ-loop
 slice-read-wide c = looking-in (c .before .before .before .before .loop .inv .0) (c .before .before .before .loop-test .taken) (c .before .wide .ensures .0)
 
--- src/look.rt:26:13
 wide-requires-2 : tie.Need-wide-requires-2 Inv-loop μ-loop
 wide-requires-2 c κs = search needs
 
--- src/look.rt:28:13
 same-length : tie.Need-same-length Inv-loop μ-loop
 same-length c = search needs
 
--- src/look.rt:28:13
 returns : tie.Need-returns Inv-loop μ-loop
 returns c = (λ z. absurd (true≢false (sym z)), looked-past (c .before .before .before .before .before .before .loop .inv .1) (c .before .before .before .before .before .loop-test .taken) (c .before .before .before .wide .ensures .0) (c .before .wide2 .ensures .0) (c .if1 .taken))
 
--- src/look.rt:30:12
 mul-if2 : tie.Need-mul-if2 Inv-loop μ-loop
 mul-if2 c = search needs
 
--- src/look.rt:30:12
 shared-slice-read-if2 : tie.Need-shared-slice-read-if2 Inv-loop μ-loop
 shared-slice-read-if2 c = search needs
 
--- src/look.rt:31:13
 same-length-2 : tie.Need-same-length-2 Inv-loop μ-loop
 same-length-2 c = search needs
 
--- src/look.rt:31:13
 returns-2 : tie.Need-returns-2 Inv-loop μ-loop
 returns-2 c = (λ z. absurd (true≢false (sym z)), looked-differs (c .before .before .before .before .before .before .before .before .loop .inv .1) (c .before .before .before .before .before .before .before .loop-test .taken) (c .before .before .before .before .before .wide .ensures .0) (c .before .before .before .wide2 .ensures .0) (c .if2 .taken))
 
--- src/look.rt:33:9
 mul-next : tie.Need-mul-next Inv-loop μ-loop
 mul-next c = search needs
 
--- src/look.rt:33:9
 slice-read-next : tie.Need-slice-read-next Inv-loop μ-loop
 slice-read-next c = looking-in (c .before .before .before .before .before .before .before .before .before .loop .inv .0) (c .before .before .before .before .before .before .before .before .loop-test .taken) (c .before .before .before .before .before .before .wide .ensures .0)
 
--- src/look.rt:33:9
 add-next : tie.Need-add-next Inv-loop μ-loop
 add-next c = search needs
 
--- src/look.rt:33:9
 slice-write-next : tie.Need-slice-write-next Inv-loop μ-loop
 slice-write-next c = looking-in (c .before .before .before .before .before .before .before .before .before .loop .inv .0) (c .before .before .before .before .before .before .before .before .loop-test .taken) (c .before .before .before .before .before .before .wide .ensures .0)
 
--- src/look.rt:34:9
 add-q : tie.Need-add-q Inv-loop μ-loop
 add-q c = search needs
 
--- src/look.rt:24:5
 loop-less : tie.Need-loop-less Inv-loop μ-loop
 loop-less c = omega (arith, c .before .before .before .before .before .before .before .before .loop-test .taken)
 
--- src/look.rt:24:5
 loop-again : tie.Need-loop-again Inv-loop μ-loop
 loop-again c = (
   looking-turn (c .before .before .before .before .before .before .before .before .before .loop .inv .0) (c .before .before .before .before .before .before .before .before .loop-test .taken) (c .before .before .before .before .before .before .wide .ensures .0) (c .before .before .before .before .wide2 .ensures .0) (c .before .if2 .left),
   going-same (c .before .before .before .before .before .before .before .before .before .loop .inv .1) (c .before .before .before .before .before .before .before .before .loop-test .taken) (c .before .before .before .before .before .before .wide .ensures .0) (c .before .before .before .before .wide2 .ensures .0) (c .before .if2 .left),
 )
 
--- src/look.rt:19:1
 same-length-3 : tie.Need-same-length-3 Inv-loop μ-loop
 same-length-3 c = search needs
 
--- src/look.rt:19:1
 returns-3 : tie.Need-returns-3 Inv-loop μ-loop
 returns-3 c = (λ z. looking-done (c .before .loop .inv .0) (c .loop-test .left), looked-agrees (going-done (c .before .loop .inv .1) (c .before .loop .inv .0 .within) (c .loop-test .left)))
 

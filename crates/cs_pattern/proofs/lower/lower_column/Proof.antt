@@ -1,3 +1,4 @@
+-- `lower_column` meets its contract. Assumes nothing.
 use Rattle.cs_tree.proofs.Falling.{Backing, backing-start, backing-row, backing-some, backing-place, backing-turn, backing-done}
 use lib.ListN.{length, length-set}
 use mathlib.Core.Path.{_≡_, _∙_, refl}
@@ -6,9 +7,6 @@ use Prim.Native.Nat.{_-_, _≤_}
 use borrow.Author.Needs.{needs}
 use Rattle.cs_pattern.proofs.lower.lower_column.Statement.{statement}
 use Rattle.cs_pattern.proofs.lower.lower_column.Tie as tie
-use Rattle.cs_pattern.proofs.lower.lower_column.Reads as reads
-use Rattle.cs_pattern.proofs.lower.lower_column.Lts as lts
-use Rattle.lists.proofs.numbers.wide.Reads as wide-reads
 
 abbrev Inv-loop : tie.InvT-loop
 Inv-loop k rows next₀ li₀ q₀ next li q = (q ≤ length rows) × Backing k rows next₀ li₀ next li q × (length next ≡ length next₀) × (length li ≡ length li₀)
@@ -16,75 +14,57 @@ Inv-loop k rows next₀ li₀ q₀ next li q = (q ≤ length rows) × Backing k 
 abbrev μ-loop : tie.MeasureT-loop
 μ-loop k rows next₀ li₀ q₀ next li q = q
 
--- src/lower.rt:13:5
 loop-holds : tie.Need-loop-holds Inv-loop μ-loop
 loop-holds c = (omega arith, backing-start, refl, refl)
 
--- src/lower.rt:14:9
 sub-q : tie.Need-sub-q Inv-loop μ-loop
 sub-q c = search needs
 
--- src/lower.rt:15:22
 mul-wide : tie.Need-mul-wide Inv-loop μ-loop
 mul-wide c = search needs
 
--- src/lower.rt:15:22
 shared-slice-read-wide : tie.Need-shared-slice-read-wide Inv-loop μ-loop
 shared-slice-read-wide c = search needs
 
--- src/lower.rt:15:13
 wide-requires : tie.Need-wide-requires Inv-loop μ-loop
 wide-requires c κs = search needs
 
--- src/lower.rt:16:17
 mul-t : tie.Need-mul-t Inv-loop μ-loop
 mul-t c = search needs
 
--- src/lower.rt:16:17
 slice-read-t : tie.Need-slice-read-t Inv-loop μ-loop
 slice-read-t c = backing-row (c .before .before .before .before .loop .inv .1) (c .before .before .before .loop-test .taken) (c .before .before .before .before .loop .inv .0) (c .before .wide .ensures .0) (c .before .before .before .before .before .before .before .before .pre)
 
--- src/lower.rt:16:17
 sub-t : tie.Need-sub-t Inv-loop μ-loop
 sub-t c = backing-some (c .before .before .before .before .loop .inv .1) (c .before .before .before .loop-test .taken) (c .before .before .before .before .loop .inv .0) (c .before .wide .ensures .0) (c .before .before .before .before .before .before .before .before .pre)
 
--- src/lower.rt:17:12
 wide-requires-2 : tie.Need-wide-requires-2 Inv-loop μ-loop
 wide-requires-2 c κs = search needs
 
--- src/lower.rt:17:9
 mul-li : tie.Need-mul-li Inv-loop μ-loop
 mul-li c = search needs
 
--- src/lower.rt:17:9
 slice-write-li : tie.Need-slice-write-li Inv-loop μ-loop
 slice-write-li c = omega (arith, c .wide2 .ensures .0, backing-place (c .before .before .before .before .before .loop .inv .1) (c .before .before .before .before .loop-test .taken) (c .before .before .before .before .before .loop .inv .0) (c .before .before .wide .ensures .0) (c .before .before .before .before .before .before .before .before .before .pre))
 
--- src/lower.rt:18:9
 mul-next : tie.Need-mul-next Inv-loop μ-loop
 mul-next c = search needs
 
--- src/lower.rt:18:9
 slice-write-next : tie.Need-slice-write-next Inv-loop μ-loop
 slice-write-next c = backing-row (c .before .before .before .before .before .loop .inv .1) (c .before .before .before .before .loop-test .taken) (c .before .before .before .before .before .loop .inv .0) (c .before .before .wide .ensures .0) (c .before .before .before .before .before .before .before .before .before .pre)
 
--- src/lower.rt:13:5
 loop-less : tie.Need-loop-less Inv-loop μ-loop
 loop-less c = search needs
 
--- src/lower.rt:13:5
 loop-again : tie.Need-loop-again Inv-loop μ-loop
 loop-again c = (omega (arith, c .before .before .before .before .before .loop .inv .0), backing-turn (c .before .before .before .before .before .loop .inv .1) (c .before .before .before .before .loop-test .taken) (c .before .before .before .before .before .loop .inv .0) (c .before .before .wide .ensures .0) (c .wide2 .ensures .0), simp length-set (c .before .before .before .before .before .loop .inv .2), simp length-set (c .before .before .before .before .before .loop .inv .3))
 
--- src/lower.rt:7:1
 same-length : tie.Need-same-length Inv-loop μ-loop
 same-length c = search needs
 
--- src/lower.rt:7:1
 same-length-2 : tie.Need-same-length-2 Inv-loop μ-loop
 same-length-2 c = search needs
 
--- src/lower.rt:7:1
 returns : tie.Need-returns Inv-loop μ-loop
 returns c = backing-done (c .before .loop .inv .1) (omega (arith, c .loop-test .left))
 

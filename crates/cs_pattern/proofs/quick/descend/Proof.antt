@@ -1,3 +1,4 @@
+-- `descend` meets its contract. Assumes nothing.
 use Rattle.cs_tree.proofs.Aiming.{Aiming, aiming-start, aiming-some, aiming-stops, aiming-low, aiming-parent, aiming-new, aiming-turn}
 use Rattle.lists.proofs.Bools.{not-both}
 use borrow.Author.Tests.{not-true}
@@ -10,10 +11,6 @@ use mathlib.Core.Path.{refl}
 use borrow.Author.Needs.{needs}
 use Rattle.cs_pattern.proofs.quick.descend.Statement.{statement}
 use Rattle.cs_pattern.proofs.quick.descend.Tie as tie
-use Rattle.cs_pattern.proofs.quick.descend.Reads as reads
-use Rattle.cs_pattern.proofs.quick.descend.Lts as lts
-use Rattle.cs_pattern.proofs.quick.stops.Reads as stops-reads
-use Rattle.lists.proofs.numbers.wide.Reads as wide-reads
 
 abbrev Inv-loop : tie.InvT-loop
 Inv-loop k row par mark₀ held t₀ none last above₀ mark t above = Descending k par held mark₀ mark above t × (length held < 2 ^ 32) × Aiming k par row held mark₀ above t
@@ -21,54 +18,42 @@ Inv-loop k row par mark₀ held t₀ none last above₀ mark t above = Descendin
 abbrev μ-loop : tie.MeasureT-loop
 μ-loop k row par mark₀ held t₀ none last above₀ mark t above = t
 
--- src/quick.rt:45:16
 add-none : tie.Need-add-none Inv-loop μ-loop
 add-none c = search needs
 
--- src/quick.rt:47:9
 returns : tie.Need-returns Inv-loop μ-loop
 returns c = (not-read (omega arith), λ older g m d. absurd (omega (arith, aiming-some (c .before .before .before .before .pre .0) d (c .before .before .before .before .pre .2) g, c .if1 .taken)))
 
--- src/quick.rt:49:21
 sub-last : tie.Need-sub-last Inv-loop μ-loop
 sub-last c = search needs
 
--- src/quick.rt:49:16
 mul-last : tie.Need-mul-last Inv-loop μ-loop
 mul-last c = search needs
 
--- src/quick.rt:49:16
 shared-slice-read-last : tie.Need-shared-slice-read-last Inv-loop μ-loop
 shared-slice-read-last c = search needs
 
--- src/quick.rt:50:9
 stops-requires : tie.Need-stops-requires Inv-loop μ-loop
 stops-requires c κs = c .before .before .before .before .before .before .pre .0
 
--- src/quick.rt:51:9
 same-length : tie.Need-same-length Inv-loop μ-loop
 same-length c = search needs
 
--- src/quick.rt:51:9
 returns-2 : tie.Need-returns-2 Inv-loop μ-loop
 returns-2 c = (
   not-read (omega arith),
   λ older g m d. let s = aiming-stops (c .before .before .before .before .before .before .before .before .pre .0) d (c .before .before .before .before .before .before .before .before .pre .2) g refl refl in absurd (not-both _ (c .before .stops .ensures .1 older g (s .0) (s .1)) (not-true _ (c .if2 .taken))),
 )
 
--- src/quick.rt:53:25
 wide-requires : tie.Need-wide-requires Inv-loop μ-loop
 wide-requires c κs = search needs
 
--- src/quick.rt:53:21
 mul-above : tie.Need-mul-above Inv-loop μ-loop
 mul-above c = search needs
 
--- src/quick.rt:53:21
 shared-slice-read-above : tie.Need-shared-slice-read-above Inv-loop μ-loop
 shared-slice-read-above c = omega (arith, c .before .before .before .stops .ensures .0 (not-false _ (c .before .before .if2 .left)) .low, c .before .before .before .before .before .before .before .before .before .before .pre .0 .p-long, c .before .wide .ensures .0)
 
--- src/quick.rt:54:5
 loop-holds : tie.Need-loop-holds Inv-loop μ-loop
 loop-holds c = (
   descending-start (c .before .before .before .before .before .before .before .before .before .before .pre .0) (c .before .before .before .stops .ensures .0 (not-false _ (c .before .before .if2 .left))) (c .before .wide .ensures .0) refl refl,
@@ -76,94 +61,72 @@ loop-holds c = (
   aiming-start (c .before .before .before .before .before .before .before .before .before .before .pre .0) (c .before .before .before .before .before .before .before .before .before .before .pre .2) refl (c .before .wide .ensures .0) refl refl,
 )
 
--- src/quick.rt:55:9
 sub-t : tie.Need-sub-t Inv-loop μ-loop
 sub-t c = search needs
 
--- src/quick.rt:56:17
 mul-b : tie.Need-mul-b Inv-loop μ-loop
 mul-b c = search needs
 
--- src/quick.rt:56:17
 shared-slice-read-b : tie.Need-shared-slice-read-b Inv-loop μ-loop
 shared-slice-read-b c = search needs
 
--- src/quick.rt:58:13
 same-length-2 : tie.Need-same-length-2 Inv-loop μ-loop
 same-length-2 c = search needs
 
--- src/quick.rt:58:13
 returns-3 : tie.Need-returns-3 Inv-loop μ-loop
 returns-3 c = (not-read (omega arith), λ older g m d. absurd (omega (arith, c .if3 .taken, aiming-low (c .before .before .before .loop .inv .0) (c .before .before .before .loop .inv .2) (c .before .before .loop-test .taken) g d)))
 
--- src/quick.rt:60:13
 wide-requires-2 : tie.Need-wide-requires-2 Inv-loop μ-loop
 wide-requires-2 c κs = search needs
 
--- src/quick.rt:61:12
 mul-if4 : tie.Need-mul-if4 Inv-loop μ-loop
 mul-if4 c = search needs
 
--- src/quick.rt:61:12
 shared-slice-read-if4 : tie.Need-shared-slice-read-if4 Inv-loop μ-loop
 shared-slice-read-if4 c = search needs
 
--- src/quick.rt:62:13
 same-length-3 : tie.Need-same-length-3 Inv-loop μ-loop
 same-length-3 c = search needs
 
--- src/quick.rt:62:13
 returns-4 : tie.Need-returns-4 Inv-loop μ-loop
 returns-4 c = (not-read (omega arith), λ older g m d. absurd (c .if4 .taken (aiming-parent (c .before .before .before .before .before .before .loop .inv .0) (c .before .before .before .before .before .before .loop .inv .2) (c .before .before .before .before .before .loop-test .taken) g d (c .before .before .wide2 .ensures .0))))
 
--- src/quick.rt:64:12
 mul-if5 : tie.Need-mul-if5 Inv-loop μ-loop
 mul-if5 c = search needs
 
--- src/quick.rt:64:12
 slice-read-if5 : tie.Need-slice-read-if5 Inv-loop μ-loop
 slice-read-if5 c = search needs
 
--- src/quick.rt:64:23
 add-if5 : tie.Need-add-if5 Inv-loop μ-loop
 add-if5 c = search needs
 
--- src/quick.rt:65:13
 same-length-4 : tie.Need-same-length-4 Inv-loop μ-loop
 same-length-4 c = search needs
 
--- src/quick.rt:65:13
 returns-5 : tie.Need-returns-5 Inv-loop μ-loop
 returns-5 c = (not-read (omega arith), λ older g m d. absurd (aiming-new (c .before .before .before .before .before .before .before .before .loop .inv .0) (c .before .before .before .before .before .before .before .before .loop .inv .2) (c .before .before .before .before .before .before .before .loop-test .taken) g d (c .before .before .before .before .wide2 .ensures .0) (c .if5 .taken)))
 
--- src/quick.rt:67:19
 add-mark : tie.Need-add-mark Inv-loop μ-loop
 add-mark c = search needs
 
--- src/quick.rt:67:9
 mul-mark : tie.Need-mul-mark Inv-loop μ-loop
 mul-mark c = search needs
 
--- src/quick.rt:67:9
 slice-write-mark : tie.Need-slice-write-mark Inv-loop μ-loop
 slice-write-mark c = search needs
 
--- src/quick.rt:69:13
 same-length-5 : tie.Need-same-length-5 Inv-loop μ-loop
 same-length-5 c = search needs
 
--- src/quick.rt:69:13
 returns-6 : tie.Need-returns-6 Inv-loop μ-loop
 returns-6 c = (
   descending-found (c .before .before .before .before .before .before .before .before .before .loop .inv .0) (c .before .before .before .before .before .before .before .before .loop-test .taken) refl (c .before .before .before .before .before .before .if3 .left) (c .before .before .before .before .before .wide2 .ensures .0) (c .before .before .before .if4 .left) (c .before .if5 .left) (c .if6 .taken),
   λ older g m d. omega (arith, c .before .before .before .before .before .before .before .before .before .loop .inv .0 .within),
 )
 
--- src/quick.rt:54:5
 loop-less : tie.Need-loop-less Inv-loop μ-loop
 loop-less c = omega (arith, c .before .before .before .before .before .before .before .before .loop-test .taken)
 
--- src/quick.rt:54:5
 loop-again : tie.Need-loop-again Inv-loop μ-loop
 loop-again c = (
   descending-turn (c .before .before .before .before .before .before .before .before .before .loop .inv .0) (c .before .before .before .before .before .before .before .before .loop-test .taken) refl (c .before .before .before .before .before .before .if3 .left) (c .before .before .before .before .before .wide2 .ensures .0) (c .before .before .before .if4 .left) (c .before .if5 .left),
@@ -171,11 +134,9 @@ loop-again c = (
   aiming-turn (c .before .before .before .before .before .before .before .before .before .loop .inv .0) (c .before .before .before .before .before .before .before .before .before .loop .inv .2) (c .before .before .before .before .before .before .before .before .loop-test .taken) refl (c .if6 .left),
 )
 
--- src/quick.rt:39:1
 same-length-6 : tie.Need-same-length-6 Inv-loop μ-loop
 same-length-6 c = search needs
 
--- src/quick.rt:39:1
 returns-7 : tie.Need-returns-7 Inv-loop μ-loop
 returns-7 c = (not-read (omega arith), λ older g m d. absurd (omega (arith, c .before .loop .inv .2 .tells older g m d .0, c .loop-test .left)))
 

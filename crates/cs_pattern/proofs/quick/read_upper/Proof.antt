@@ -1,3 +1,4 @@
+-- `read_upper` meets its contract. Assumes nothing.
 use borrow.Author.Tests.{not-true}
 use native.Mathlib.Omega.{arith}
 use borrow.Author.Tests.{not-false}
@@ -7,133 +8,96 @@ use Rattle.cs_pattern.proofs.Deciding.{untold, up-short, up-many, tree-
 use borrow.Author.Needs.{needs}
 use Rattle.cs_pattern.proofs.quick.read_upper.Statement.{statement}
 use Rattle.cs_pattern.proofs.quick.read_upper.Tie as tie
-use Rattle.cs_pattern.proofs.quick.read_upper.Reads as reads
-use Rattle.cs_pattern.proofs.quick.read_upper.Lts as lts
-use Rattle.cs_pattern.proofs.quick.read_columns.Reads as read-columns-reads
-use Rattle.cs_pattern.proofs.same.same.Reads as same-reads
-use Rattle.cs_pattern.proofs.tree.elimination_tree.Reads as elimination-tree-reads
-use Rattle.lists.proofs.clear.clear.Reads as clear-reads
-use Rattle.lists.proofs.numbers.wide.Reads as wide-reads
 
--- src/quick.rt:163:9
 returns : tie.Need-returns
 returns c = untold (c .before .before .before .before .before .before .before .before .pre .0) (c .before .before .before .before .before .before .before .before .args .tree .now) (c .before .before .before .before .before .before .before .before .args .up .now) (c .before .before .before .before .before .before .before .before .args .ui .now) (up-short (c .before .before .before .before .before .before .before .before .pre .0) (c .before .before .before .before .before .before .before .before .args .tree .now) (c .before .before .before .before .before .before .before .before .args .up .now) (c .before .before .before .before .before .before .before .before .args .ui .now) (c .if1 .taken)) (kept-all _ _) (kept-all _ _)
 
--- src/quick.rt:165:13
 mul-wide : tie.Need-mul-wide
 mul-wide c = search needs
 
--- src/quick.rt:165:13
 shared-slice-read-wide : tie.Need-shared-slice-read-wide
 shared-slice-read-wide c = search needs
 
--- src/quick.rt:165:8
 wide-requires : tie.Need-wide-requires
 wide-requires c κs = search needs
 
--- src/quick.rt:166:9
 returns-2 : tie.Need-returns-2
 returns-2 c = untold (c .before .before .before .before .before .before .before .before .before .before .before .pre .0) (c .before .before .before .before .before .before .before .before .before .before .before .args .tree .now) (c .before .before .before .before .before .before .before .before .before .before .before .args .up .now) (c .before .before .before .before .before .before .before .before .before .before .before .args .ui .now) (up-many (c .before .before .before .before .before .before .before .before .before .before .before .pre .0) (c .before .before .before .before .before .before .before .before .before .before .before .args .tree .now) (c .before .before .before .before .before .before .before .before .before .before .before .args .up .now) (c .before .before .before .before .before .before .before .before .before .before .before .args .ui .now) (omega (arith, c .if2 .taken, c .before .wide .ensures .0))) (kept-all _ _) (kept-all _ _)
 
--- src/quick.rt:168:31
 sub-elimination-tree : tie.Need-sub-elimination-tree
 sub-elimination-tree c = search needs
 
--- src/quick.rt:168:31
 part-elimination-tree-start : tie.Need-part-elimination-tree-start
 part-elimination-tree-start c = search needs
 
--- src/quick.rt:168:31
 part-elimination-tree-end : tie.Need-part-elimination-tree-end
 part-elimination-tree-end c = search needs
 
--- src/quick.rt:168:46
 sub-elimination-tree-2 : tie.Need-sub-elimination-tree-2
 sub-elimination-tree-2 c = search needs
 
--- src/quick.rt:168:46
 part-elimination-tree-start-2 : tie.Need-part-elimination-tree-start-2
 part-elimination-tree-start-2 c = search needs
 
--- src/quick.rt:168:46
 part-elimination-tree-end-2 : tie.Need-part-elimination-tree-end-2
 part-elimination-tree-end-2 c = search needs
 
--- src/quick.rt:168:5
 elimination-tree-requires : tie.Need-elimination-tree-requires
 elimination-tree-requires c κs = (c .before .before .before .before .before .before .before .before .before .before .before .before .before .pre .0, part-long _ _ (c .before .before .before .before .before .before .before .before .before .before .before .before .before .pre .1), part-long _ _ (c .before .before .before .before .before .before .before .before .before .before .before .before .before .pre .2))
 
--- src/quick.rt:169:14
-sub-same : tie.Need-sub-same
-sub-same c = search needs
+sub-starts-with : tie.Need-sub-starts-with
+sub-starts-with c = search needs
 
--- src/quick.rt:169:14
-part-same-start : tie.Need-part-same-start
-part-same-start c = search needs
+part-starts-with-start : tie.Need-part-starts-with-start
+part-starts-with-start c = search needs
 
--- src/quick.rt:169:14
-part-same-end : tie.Need-part-same-end
-part-same-end c = search needs
+part-starts-with-end : tie.Need-part-starts-with-end
+part-starts-with-end c = search needs
 
--- src/quick.rt:169:9
-same-requires : tie.Need-same-requires
-same-requires c κs = tt
+starts-with-requires : tie.Need-starts-with-requires
+starts-with-requires c κs = tt
 
--- src/quick.rt:170:9
 same-length : tie.Need-same-length
 same-length c = search needs
 
--- src/quick.rt:170:9
 same-length-2 : tie.Need-same-length-2
 same-length-2 c = search needs
 
--- src/quick.rt:170:9
 returns-3 : tie.Need-returns-3
-returns-3 c = tree-untold (c .before .before .before .before .before .before .before .before .before .before .before .before .before .before .before .before .before .before .before .before .before .before .pre .0) (c .before .before .before .before .before .before .before .before .before .before .before .before .before .before .before .before .before .before .before .before .before .before .args .tree .now) (c .before .before .before .before .before .before .before .before .before .before .before .before .before .before .before .before .before .before .before .before .before .before .args .up .now) (c .before .before .before .before .before .before .before .before .before .before .before .before .before .before .before .before .before .before .before .before .before .before .args .ui .now) (c .before .before .before .before .before .before .before .before .before .before .before .before .before .before .before .before .before .before .before .before .before .before .args .w1 .now) (c .before .before .before .before .before .before .before .before .before .before .before .before .before .before .before .before .before .before .before .before .before .before .args .w2 .now) (c .before .before .before .before .before .before .before .before .elimination-tree .last .1 .1 .1 .1 .0) (c .before .before .before .before .before .before .before .before .before .before .before .before .before .before .before .before .before .before .before .before .before .before .pre .1) (c .before .before .before .before .before .before .before .before .before .before .before .before .before .before .before .before .before .before .before .before .before .before .pre .2) (c .before .before .before .before .before .before .before .before .elimination-tree .ensures) (c .before .before .before .before .before .before .before .before .elimination-tree .kept .1 .1 .1 .1 .0) (c .before .same .ensures) (not-true _ (c .if3 .taken))
+returns-3 c = tree-untold (c .before .before .before .before .before .before .before .before .before .before .before .before .before .before .before .before .before .before .before .before .before .before .pre .0) (c .before .before .before .before .before .before .before .before .before .before .before .before .before .before .before .before .before .before .before .before .before .before .args .tree .now) (c .before .before .before .before .before .before .before .before .before .before .before .before .before .before .before .before .before .before .before .before .before .before .args .up .now) (c .before .before .before .before .before .before .before .before .before .before .before .before .before .before .before .before .before .before .before .before .before .before .args .ui .now) (c .before .before .before .before .before .before .before .before .before .before .before .before .before .before .before .before .before .before .before .before .before .before .args .w1 .now) (c .before .before .before .before .before .before .before .before .before .before .before .before .before .before .before .before .before .before .before .before .before .before .args .w2 .now) (c .before .before .before .before .before .before .before .before .elimination-tree .last .1 .1 .1 .1 .0) (c .before .before .before .before .before .before .before .before .before .before .before .before .before .before .before .before .before .before .before .before .before .before .pre .1) (c .before .before .before .before .before .before .before .before .before .before .before .before .before .before .before .before .before .before .before .before .before .before .pre .2) (c .before .before .before .before .before .before .before .before .elimination-tree .ensures) (c .before .before .before .before .before .before .before .before .elimination-tree .kept .1 .1 .1 .1 .0) (c .before .starts-with .ensures) (not-true _ (c .if3 .taken))
 
--- src/quick.rt:172:5
 clear-requires : tie.Need-clear-requires
 clear-requires c κs = tt
 
--- src/quick.rt:173:27
 sub-read-columns : tie.Need-sub-read-columns
 sub-read-columns c = search needs
 
--- src/quick.rt:173:27
 part-read-columns-start : tie.Need-part-read-columns-start
 part-read-columns-start c = search needs
 
--- src/quick.rt:173:27
 part-read-columns-end : tie.Need-part-read-columns-end
 part-read-columns-end c = search needs
 
--- src/quick.rt:173:38
 sub-read-columns-2 : tie.Need-sub-read-columns-2
 sub-read-columns-2 c = search needs
 
--- src/quick.rt:173:38
 part-read-columns-start-2 : tie.Need-part-read-columns-start-2
 part-read-columns-start-2 c = search needs
 
--- src/quick.rt:173:38
 part-read-columns-end-2 : tie.Need-part-read-columns-end-2
 part-read-columns-end-2 c = search needs
 
--- src/quick.rt:173:5
 read-columns-requires : tie.Need-read-columns-requires
 read-columns-requires c κs = read-asks (c .before .before .before .before .before .before .before .before .before .before .before .before .before .before .before .before .before .before .before .before .before .before .before .before .before .before .before .before .before .pre .0) (c .before .before .before .before .before .before .before .before .before .before .before .before .before .before .before .before .before .before .before .before .before .before .before .before .before .before .before .before .before .args .tree .now) (c .before .before .before .before .before .before .before .before .before .before .before .before .before .before .before .before .before .before .before .before .before .before .before .before .before .before .before .before .before .args .up .now) (c .before .before .before .before .before .before .before .before .before .before .before .before .before .before .before .before .before .before .before .before .before .before .before .before .before .before .before .before .before .args .ui .now) (c .before .before .before .before .before .before .before .before .before .before .before .before .before .before .before .before .before .before .before .before .before .before .before .before .before .before .before .before .before .args .w1 .now) (c .before .before .before .before .before .before .before .before .before .before .before .before .before .before .before .before .before .before .before .before .before .before .before .before .before .before .before .before .before .args .w2 .now) (c .before .before .before .before .before .before .before .before .before .before .before .before .before .before .before .elimination-tree .last .1 .1 .1 .1 .0) (c .before .before .before .before .before .before .before .before .before .before .before .before .before .before .before .before .before .before .before .before .before .before .before .before .before .before .before .before .before .pre .1) (c .before .before .before .before .before .before .before .before .before .before .before .before .before .before .before .before .before .before .before .before .before .before .before .before .before .before .before .before .before .pre .2) (c .before .before .before .before .before .before .before .before .before .before .before .before .before .before .before .elimination-tree .ensures) (c .before .before .before .before .before .before .before .before .before .before .before .before .before .before .before .elimination-tree .kept .1 .1 .1 .1 .0) (c .before .before .before .before .before .clear .ensures) (c .before .before .before .before .before .before .before .before .before .before .before .before .before .before .before .before .before .before .before .before .before .if1 .left)
 
--- src/quick.rt:147:1
 same-length-3 : tie.Need-same-length-3
 same-length-3 c = search needs
 
--- src/quick.rt:147:1
 same-length-4 : tie.Need-same-length-4
 same-length-4 c = search needs
 
--- src/quick.rt:147:1
 returns-4 : tie.Need-returns-4
-returns-4 c = told (c .before .before .before .before .before .before .before .before .before .before .before .before .before .before .before .before .before .before .before .before .before .before .before .before .before .before .before .before .before .before .before .before .pre .0) (c .before .before .before .before .before .before .before .before .before .before .before .before .before .before .before .before .before .before .before .before .before .before .before .before .before .before .before .before .before .before .before .before .args .tree .now) (c .before .before .before .before .before .before .before .before .before .before .before .before .before .before .before .before .before .before .before .before .before .before .before .before .before .before .before .before .before .before .before .before .args .up .now) (c .before .before .before .before .before .before .before .before .before .before .before .before .before .before .before .before .before .before .before .before .before .before .before .before .before .before .before .before .before .before .before .before .args .ui .now) (c .before .before .before .before .before .before .before .before .before .before .before .before .before .before .before .before .before .before .before .before .before .before .before .before .before .before .before .before .before .before .before .before .args .w1 .now) (c .before .before .before .before .before .before .before .before .before .before .before .before .before .before .before .before .before .before .before .before .before .before .before .before .before .before .before .before .before .before .before .before .args .w2 .now) (c .before .before .before .before .before .before .before .before .before .before .before .before .before .before .before .before .before .before .elimination-tree .last .1 .1 .1 .1 .0) (c .before .before .before .before .before .before .before .before .before .before .before .before .before .before .before .before .before .before .before .before .before .before .before .before .before .before .before .before .before .before .before .before .pre .1) (c .before .before .before .before .before .before .before .before .before .before .before .before .before .before .before .before .before .before .before .before .before .before .before .before .before .before .before .before .before .before .before .before .pre .2) (c .before .before .before .before .before .before .before .before .before .before .before .before .before .before .before .before .before .before .elimination-tree .ensures) (c .before .before .before .before .before .before .before .before .before .before .before .before .before .before .before .before .before .before .elimination-tree .kept .1 .1 .1 .1 .0) (c .before .before .before .before .before .before .before .before .before .before .before .same .ensures) (c .before .before .before .before .before .before .before .before .clear .ensures) (c .before .before .read-columns .last .1 .1 .1 .1 .0) (not-false _ (c .before .before .before .before .before .before .before .before .before .before .if3 .left)) (c .before .before .read-columns .kept .1 .1 .1 .1 .0) (omega (arith, c .before .before .before .before .before .before .before .before .before .before .before .before .before .before .before .before .before .before .before .before .before .if2 .left, c .before .before .before .before .before .before .before .before .before .before .before .before .before .before .before .before .before .before .before .before .before .before .wide .ensures .0)) (c .before .before .read-columns .ensures)
+returns-4 c = told (c .before .before .before .before .before .before .before .before .before .before .before .before .before .before .before .before .before .before .before .before .before .before .before .before .before .before .before .before .before .before .before .before .pre .0) (c .before .before .before .before .before .before .before .before .before .before .before .before .before .before .before .before .before .before .before .before .before .before .before .before .before .before .before .before .before .before .before .before .args .tree .now) (c .before .before .before .before .before .before .before .before .before .before .before .before .before .before .before .before .before .before .before .before .before .before .before .before .before .before .before .before .before .before .before .before .args .up .now) (c .before .before .before .before .before .before .before .before .before .before .before .before .before .before .before .before .before .before .before .before .before .before .before .before .before .before .before .before .before .before .before .before .args .ui .now) (c .before .before .before .before .before .before .before .before .before .before .before .before .before .before .before .before .before .before .before .before .before .before .before .before .before .before .before .before .before .before .before .before .args .w1 .now) (c .before .before .before .before .before .before .before .before .before .before .before .before .before .before .before .before .before .before .before .before .before .before .before .before .before .before .before .before .before .before .before .before .args .w2 .now) (c .before .before .before .before .before .before .before .before .before .before .before .before .before .before .before .before .before .before .elimination-tree .last .1 .1 .1 .1 .0) (c .before .before .before .before .before .before .before .before .before .before .before .before .before .before .before .before .before .before .before .before .before .before .before .before .before .before .before .before .before .before .before .before .pre .1) (c .before .before .before .before .before .before .before .before .before .before .before .before .before .before .before .before .before .before .before .before .before .before .before .before .before .before .before .before .before .before .before .before .pre .2) (c .before .before .before .before .before .before .before .before .before .before .before .before .before .before .before .before .before .before .elimination-tree .ensures) (c .before .before .before .before .before .before .before .before .before .before .before .before .before .before .before .before .before .before .elimination-tree .kept .1 .1 .1 .1 .0) (c .before .before .before .before .before .before .before .before .before .before .before .starts-with .ensures) (c .before .before .before .before .before .before .before .before .clear .ensures) (c .before .before .read-columns .last .1 .1 .1 .1 .0) (not-false _ (c .before .before .before .before .before .before .before .before .before .before .if3 .left)) (c .before .before .read-columns .kept .1 .1 .1 .1 .0) (omega (arith, c .before .before .before .before .before .before .before .before .before .before .before .before .before .before .before .before .before .before .before .before .before .if2 .left, c .before .before .before .before .before .before .before .before .before .before .before .before .before .before .before .before .before .before .before .before .before .before .wide .ensures .0)) (c .before .before .read-columns .ensures)
 
 pub read-upper-spec : {M : Type 1} → statement M
 read-upper-spec =
@@ -151,10 +115,10 @@ read-upper-spec =
     part-elimination-tree-start-2
     part-elimination-tree-end-2
     elimination-tree-requires
-    sub-same
-    part-same-start
-    part-same-end
-    same-requires
+    sub-starts-with
+    part-starts-with-start
+    part-starts-with-end
+    starts-with-requires
     same-length
     same-length-2
     returns-3

@@ -1,3 +1,4 @@
+-- `stops` meets its contract. Assumes nothing.
 use Rattle.cs_tree.proofs.Aiming.{stops-marked}
 use native.Mathlib.Omega.{arith}
 use mathlib.Core.Path.{refl, sym}
@@ -7,47 +8,34 @@ use mathlib.Core.Bool.{true≢false}
 use borrow.Author.Needs.{needs}
 use Rattle.cs_pattern.proofs.quick.stops.Statement.{statement}
 use Rattle.cs_pattern.proofs.quick.stops.Tie as tie
-use Rattle.cs_pattern.proofs.quick.stops.Reads as reads
-use Rattle.cs_pattern.proofs.quick.stops.Lts as lts
-use Rattle.lists.proofs.numbers.wide.Reads as wide-reads
 
--- src/quick.rt:29:9
 returns : tie.Need-returns
 returns c = (λ z. absurd (true≢false (sym z)), λ older g l n. absurd (omega (arith, c .if1 .taken, l)))
 
--- src/quick.rt:31:21
 wide-requires : tie.Need-wide-requires
 wide-requires c κs = search needs
 
--- src/quick.rt:31:17
 mul-above : tie.Need-mul-above
 mul-above c = search needs
 
--- src/quick.rt:31:17
 shared-slice-read-above : tie.Need-shared-slice-read-above
 shared-slice-read-above c = search needs
 
--- src/quick.rt:33:9
 returns-2 : tie.Need-returns-2
 returns-2 c = (λ z. stops-over (c .before .before .before .before .before .before .pre) (c .before .before .before .if1 .left) (c .before .before .wide .ensures .0) refl (c .if2 .taken), λ older g l n. refl)
 
--- src/quick.rt:35:10
 wide-requires-2 : tie.Need-wide-requires-2
 wide-requires-2 c κs = search needs
 
--- src/quick.rt:35:5
 mul-result : tie.Need-mul-result
 mul-result c = search needs
 
--- src/quick.rt:35:5
 shared-slice-read-result : tie.Need-shared-slice-read-result
 shared-slice-read-result c = search needs
 
--- src/quick.rt:35:26
 add-result : tie.Need-add-result
 add-result c = search needs
 
--- src/quick.rt:24:1
 returns-3 : tie.Need-returns-3
 returns-3 c = (
   λ z. stops-seen (c .before .before .before .before .before .before .before .before .pre) (c .before .before .before .before .before .if1 .left) (c .before .before .before .before .wide .ensures .0) refl (c .before .before .if2 .left) (c .before .wide2 .ensures .0) (eqb-true _ _ z),

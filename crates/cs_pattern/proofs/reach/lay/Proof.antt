@@ -1,13 +1,10 @@
+-- `lay` meets its contract. Assumes nothing.
 use Rattle.cs_tree.proofs.Tracing.{Reaching, reaching-start, reaching-end, reaching-roomy, reaching-room, reaching-shift, reaching-turn, reaching-done}
 use lib.ListN.{length}
 use Prim.Native.Nat.{_-_}
 use borrow.Author.Needs.{needs}
 use Rattle.cs_pattern.proofs.reach.lay.Statement.{statement}
 use Rattle.cs_pattern.proofs.reach.lay.Tie as tie
-use Rattle.cs_pattern.proofs.reach.lay.Reads as reads
-use Rattle.cs_pattern.proofs.reach.lay.Lts as lts
-use Rattle.cs_pattern.proofs.reach.shift.Reads as shift-reads
-use Rattle.cs_pattern.proofs.reach.trace.Reads as trace-reads
 
 abbrev Inv-loop : tie.InvT-loop
 Inv-loop k s rows par mark₀ end out₀ top₀ q₀ mark out top q = Reaching s k par rows mark₀ mark out₀ out end top q
@@ -15,59 +12,45 @@ Inv-loop k s rows par mark₀ end out₀ top₀ q₀ mark out top q = Reaching s
 abbrev μ-loop : tie.MeasureT-loop
 μ-loop k s rows par mark₀ end out₀ top₀ q₀ mark out top q = length rows - q
 
--- src/reach.rt:91:5
 loop-holds : tie.Need-loop-holds Inv-loop μ-loop
 loop-holds c = reaching-start _ _ (c .before .before .before .before .pre .1) (c .before .before .before .before .pre .2) (c .before .before .before .before .pre .3) (c .before .before .before .before .pre .4)
 
--- src/reach.rt:92:28
 mul-trace : tie.Need-mul-trace Inv-loop μ-loop
 mul-trace c = search needs
 
--- src/reach.rt:92:28
 shared-slice-read-trace : tie.Need-shared-slice-read-trace Inv-loop μ-loop
 shared-slice-read-trace c = search needs
 
--- src/reach.rt:92:48
 sub-trace : tie.Need-sub-trace Inv-loop μ-loop
 sub-trace c = search needs
 
--- src/reach.rt:92:48
 part-trace-start : tie.Need-part-trace-start Inv-loop μ-loop
 part-trace-start c = search needs
 
--- src/reach.rt:92:48
 part-trace-end : tie.Need-part-trace-end Inv-loop μ-loop
 part-trace-end c = reaching-end (c .before .before .before .loop .inv)
 
--- src/reach.rt:92:13
 trace-requires : tie.Need-trace-requires Inv-loop μ-loop
 trace-requires c κs = (c .before .before .before .before .before .before .before .before .before .pre .0, c .before .before .before .before .loop .inv .asks, reaching-roomy (c .before .before .before .before .loop .inv) (c .before .before .before .loop-test .taken))
 
--- src/reach.rt:93:9
 shift-requires : tie.Need-shift-requires Inv-loop μ-loop
 shift-requires c κs = (reaching-room (c .before .before .before .before .before .before .before .before .before .before .loop .inv) (c .before .before .before .before .before .before .before .before .before .loop-test .taken) (c .before .before .before .before .before .trace .kept .1 .1 .1 .1 .0) (c .before .before .before .before .before .trace .kept .1 .1 .1 .1 .1 .0) (c .before .before .before .before .before .trace .ensures), reaching-shift (c .before .before .before .before .before .before .before .before .before .before .loop .inv) (c .before .before .before .before .before .before .before .before .before .loop-test .taken) (c .before .before .before .before .before .trace .kept .1 .1 .1 .1 .0) (c .before .before .before .before .before .trace .kept .1 .1 .1 .1 .1 .0) (c .before .before .before .before .before .trace .ensures))
 
--- src/reach.rt:94:9
 add-q : tie.Need-add-q Inv-loop μ-loop
 add-q c = search needs
 
--- src/reach.rt:91:5
 loop-less : tie.Need-loop-less Inv-loop μ-loop
 loop-less c = search needs
 
--- src/reach.rt:91:5
 loop-again : tie.Need-loop-again Inv-loop μ-loop
 loop-again c = reaching-turn (c .before .before .before .before .before .before .before .before .before .before .before .before .before .loop .inv) (c .before .before .before .before .before .before .before .before .before .before .before .before .loop-test .taken) (c .before .before .before .before .before .before .before .before .trace .kept .1 .1 .1 .1 .0) (c .before .before .before .before .before .before .before .before .trace .kept .1 .1 .1 .1 .1 .0) (c .before .before .before .before .before .before .before .before .trace .ensures) (c .before .before .shift .kept .1 .1 .0) (c .before .before .shift .ensures)
 
--- src/reach.rt:85:1
 same-length : tie.Need-same-length Inv-loop μ-loop
 same-length c = c .before .loop .inv .same
 
--- src/reach.rt:85:1
 same-length-2 : tie.Need-same-length-2 Inv-loop μ-loop
 same-length-2 c = c .before .loop .inv .long
 
--- src/reach.rt:85:1
 returns : tie.Need-returns Inv-loop μ-loop
 returns c = reaching-done (c .before .loop .inv) (c .loop-test .left)
 

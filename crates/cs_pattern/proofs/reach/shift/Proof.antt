@@ -1,11 +1,10 @@
+-- `shift` meets its contract. Assumes nothing.
 use mathlib.Core.Path.{refl}
 use Rattle.cs_tree.proofs.Tracing.{Shifting, shifting-start, shift-from, shift-to, shifting-turn, shifting-done, shift-none}
 use native.Mathlib.Omega.{arith}
 use borrow.Author.Needs.{needs}
 use Rattle.cs_pattern.proofs.reach.shift.Statement.{statement}
 use Rattle.cs_pattern.proofs.reach.shift.Tie as tie
-use Rattle.cs_pattern.proofs.reach.shift.Reads as reads
-use Rattle.cs_pattern.proofs.reach.shift.Lts as lts
 
 abbrev Inv-loop : tie.InvT-loop
 Inv-loop len top out₀ low t₀ out t = Shifting len top low out₀ out t
@@ -13,55 +12,42 @@ Inv-loop len top out₀ low t₀ out t = Shifting len top low out₀ out t
 abbrev μ-loop : tie.MeasureT-loop
 μ-loop len top out₀ low t₀ out t = t
 
--- src/reach.rt:57:15
 sub-low : tie.Need-sub-low Inv-loop μ-loop
 sub-low c = c .pre .0
 
--- src/reach.rt:59:9
 returns : tie.Need-returns Inv-loop μ-loop
 returns c = shift-none _ refl (c .before .pre .0) (c .if1 .taken)
 
--- src/reach.rt:62:5
 loop-holds : tie.Need-loop-holds Inv-loop μ-loop
 loop-holds c = shifting-start refl (c .before .pre .0) (c .before .pre .1)
 
--- src/reach.rt:63:9
 sub-t : tie.Need-sub-t Inv-loop μ-loop
 sub-t c = search needs
 
--- src/reach.rt:64:24
 mul-out : tie.Need-mul-out Inv-loop μ-loop
 mul-out c = search needs
 
--- src/reach.rt:64:24
 slice-read-out : tie.Need-slice-read-out Inv-loop μ-loop
 slice-read-out c = shift-from (c .before .before .loop .inv) (c .before .loop-test .taken)
 
--- src/reach.rt:64:13
 add-out : tie.Need-add-out Inv-loop μ-loop
 add-out c = search needs
 
--- src/reach.rt:64:9
 mul-out-2 : tie.Need-mul-out-2 Inv-loop μ-loop
 mul-out-2 c = search needs
 
--- src/reach.rt:64:9
 slice-write-out : tie.Need-slice-write-out Inv-loop μ-loop
 slice-write-out c = shift-to (c .before .before .loop .inv) (c .before .loop-test .taken)
 
--- src/reach.rt:62:5
 loop-less : tie.Need-loop-less Inv-loop μ-loop
 loop-less c = search needs
 
--- src/reach.rt:62:5
 loop-again : tie.Need-loop-again Inv-loop μ-loop
 loop-again c = shifting-turn (c .before .before .loop .inv) (c .before .loop-test .taken)
 
--- src/reach.rt:53:1
 same-length : tie.Need-same-length Inv-loop μ-loop
 same-length c = search needs
 
--- src/reach.rt:53:1
 returns-2 : tie.Need-returns-2 Inv-loop μ-loop
 returns-2 c = (c .before .loop .inv .ends, shifting-done (c .before .loop .inv) (omega arith))
 

@@ -1,3 +1,4 @@
+-- `tree_column` meets its contract. Assumes nothing.
 use Rattle.cs_tree.proofs.Climbing.{Climbing, Rows, climbing-start, climbing-up, climbing-next, climbing-root, climbing-end, rows-start, rows-turn, rows-done}
 use Rattle.cs_tree.proofs.Past.{rows-past}
 use Prim.Native.Nat.{_-_}
@@ -7,9 +8,6 @@ use native.Mathlib.Omega.{arith}
 use borrow.Author.Needs.{needs}
 use Rattle.cs_pattern.proofs.tree.tree_column.Statement.{statement}
 use Rattle.cs_pattern.proofs.tree.tree_column.Tie as tie
-use Rattle.cs_pattern.proofs.tree.tree_column.Reads as reads
-use Rattle.cs_pattern.proofs.tree.tree_column.Lts as lts
-use Rattle.lists.proofs.numbers.wide.Reads as wide-reads
 
 abbrev Inv-climb : tie.InvT-climb
 Inv-climb k rows par₀ anc₀ top q i₀ q-end par anc i = Climbing k par₀ anc₀ par anc i₀ i
@@ -23,87 +21,66 @@ Inv-loop k rows par₀ anc₀ top q₀ q-end par anc q = Rows k rows par₀ anc�
 abbrev μ-loop : tie.MeasureT-loop
 μ-loop k rows par₀ anc₀ top q₀ q-end par anc q = length rows - q
 
--- src/tree.rt:30:9
 wide-requires : tie.Need-wide-requires Inv-climb μ-climb Inv-loop μ-loop
 wide-requires c κs = search needs
 
--- src/tree.rt:31:5
 loop-holds : tie.Need-loop-holds Inv-climb μ-climb Inv-loop μ-loop
 loop-holds c = rows-start _ (c .before .before .before .before .pre .0)
 
--- src/tree.rt:32:26
 mul-wide : tie.Need-mul-wide Inv-climb μ-climb Inv-loop μ-loop
 mul-wide c = search needs
 
--- src/tree.rt:32:26
 shared-slice-read-wide : tie.Need-shared-slice-read-wide Inv-climb μ-climb Inv-loop μ-loop
 shared-slice-read-wide c = search needs
 
--- src/tree.rt:32:13
 wide-requires-2 : tie.Need-wide-requires-2 Inv-climb μ-climb Inv-loop μ-loop
 wide-requires-2 c κs = search needs
 
--- src/tree.rt:34:13
 same-length : tie.Need-same-length Inv-climb μ-climb Inv-loop μ-loop
 same-length c = search needs
 
--- src/tree.rt:34:13
 same-length-2 : tie.Need-same-length-2 Inv-climb μ-climb Inv-loop μ-loop
 same-length-2 c = search needs
 
--- src/tree.rt:34:13
 returns : tie.Need-returns Inv-climb μ-climb Inv-loop μ-loop
 returns c = rows-past (c .before .before .before .before .loop .inv) (c .before .before .before .before .before .before .before .before .before .pre .1) (omega (arith, c .if1 .taken, c .before .wide2 .ensures .0, c .before .before .before .before .before .wide .ensures .0))
 
--- src/tree.rt:36:9
 climb-holds : tie.Need-climb-holds Inv-climb μ-climb Inv-loop μ-loop
 climb-holds c = climbing-start _ (c .before .before .before .before .loop .inv .asks)
 
--- src/tree.rt:37:21
 mul-a : tie.Need-mul-a Inv-climb μ-climb Inv-loop μ-loop
 mul-a c = search needs
 
--- src/tree.rt:37:21
 slice-read-a : tie.Need-slice-read-a Inv-climb μ-climb Inv-loop μ-loop
 slice-read-a c = search needs
 
--- src/tree.rt:38:13
 mul-anc : tie.Need-mul-anc Inv-climb μ-climb Inv-loop μ-loop
 mul-anc c = search needs
 
--- src/tree.rt:38:13
 slice-write-anc : tie.Need-slice-write-anc Inv-climb μ-climb Inv-loop μ-loop
 slice-write-anc c = search needs
 
--- src/tree.rt:40:17
 mul-par : tie.Need-mul-par Inv-climb μ-climb Inv-loop μ-loop
 mul-par c = search needs
 
--- src/tree.rt:40:17
 slice-write-par : tie.Need-slice-write-par Inv-climb μ-climb Inv-loop μ-loop
 slice-write-par c = search needs
 
--- src/tree.rt:43:13
 wide-requires-3 : tie.Need-wide-requires-3 Inv-climb μ-climb Inv-loop μ-loop
 wide-requires-3 c κs = search needs
 
--- src/tree.rt:36:9
 climb-less : tie.Need-climb-less Inv-climb μ-climb Inv-loop μ-loop
 climb-less c = omega (arith, climbing-up (c .before .before .before .before .climb .inv) (omega arith))
 
--- src/tree.rt:36:9
 climb-again : tie.Need-climb-again Inv-climb μ-climb Inv-loop μ-loop
 climb-again c = climbing-next (c .before .before .before .before .climb .inv) (omega arith) (c .before .if2 .left) (c .wide3 .ensures .0)
 
--- src/tree.rt:31:9
 add-q : tie.Need-add-q Inv-climb μ-climb Inv-loop μ-loop
 add-q c = search needs
 
--- src/tree.rt:31:5
 loop-less : tie.Need-loop-less Inv-climb μ-climb Inv-loop μ-loop
 loop-less c = search needs
 
--- src/tree.rt:31:5
 loop-again : tie.Need-loop-again Inv-climb μ-climb Inv-loop μ-loop
 loop-again c = rows-turn (c .before .before .before .before .before .before .loop .inv) (c .before .before .before .before .before .loop-test .taken) (c .before .before .before .wide2 .ensures .0)
     (⊎-elim
@@ -111,15 +88,12 @@ loop-again c = rows-turn (c .before .before .before .before .before .before .loo
     (λ w. rw (w .3, w .4) (climbing-root (c .before .climb .inv) (omega arith) (w .2 .taken)))
     (c .climb-test .came))
 
--- src/tree.rt:26:1
 same-length-3 : tie.Need-same-length-3 Inv-climb μ-climb Inv-loop μ-loop
 same-length-3 c = search needs
 
--- src/tree.rt:26:1
 same-length-4 : tie.Need-same-length-4 Inv-climb μ-climb Inv-loop μ-loop
 same-length-4 c = search needs
 
--- src/tree.rt:26:1
 returns-2 : tie.Need-returns-2 Inv-climb μ-climb Inv-loop μ-loop
 returns-2 c = rows-done (c .before .loop .inv) (c .loop-test .left)
 

@@ -1,5 +1,6 @@
-use Rattle.cs_pattern.proofs.Matching.{sameAt, same-told, starts-short}
+-- `starts_with`: the laws of proofs/Matching.antt. Assumes nothing.
+use Rattle.lists.proofs.Matching.{sameAt, same-told, starts-short}
 use Rattle.lists.proofs.Folds.{Telling, telling-start, telling-holds, telling-fails, telling-done}
 use borrow.Author.Tests.{eq-eqb, ne-eqb}
 use mathlib.Core.Logic.{⊎-elim}
 use mathlib.Core.Path.{_≡_, _∙_, refl}
@@ -7,62 +8,50 @@ use native.Mathlib.Omega.{arith}
 use lib.ListN.{length}
 use Prim.Native.Nat.{_-_, _≤_}
 use borrow.Author.Needs.{needs}
-use Rattle.cs_pattern.proofs.same.same.Statement.{statement}
-use Rattle.cs_pattern.proofs.same.same.Tie as tie
-use Rattle.cs_pattern.proofs.same.same.Reads as reads
-use Rattle.cs_pattern.proofs.same.same.Lts as lts
+use Rattle.lists.proofs.order.starts_with.Statement.{statement}
+use Rattle.lists.proofs.order.starts_with.Tie as tie
 
 abbrev Inv-loop : tie.InvT-loop
-Inv-loop a b bad₀ k₀ bad k = Telling (sameAt a b) (length a) bad k × (length a ≤ length b)
+Inv-loop a b apart₀ q₀ apart q = Telling (sameAt a b) (length a) apart q × (length a ≤ length b)
 
 abbrev μ-loop : tie.MeasureT-loop
-μ-loop a b bad₀ k₀ bad k = length a - k
+μ-loop a b apart₀ q₀ apart q = length a - q
 
--- src/same.rt:21:9
 returns : tie.Need-returns Inv-loop μ-loop
 returns c = starts-short _ _ (c .if1 .taken)
 
--- src/same.rt:25:5
 loop-holds : tie.Need-loop-holds Inv-loop μ-loop
 loop-holds c = (telling-start _ _, c .if1 .left)
 
--- src/same.rt:26:12
 mul-if2 : tie.Need-mul-if2 Inv-loop μ-loop
 mul-if2 c = search needs
 
--- src/same.rt:26:12
 shared-slice-read-if2 : tie.Need-shared-slice-read-if2 Inv-loop μ-loop
 shared-slice-read-if2 c = search needs
 
--- src/same.rt:26:20
 mul-if2-2 : tie.Need-mul-if2-2 Inv-loop μ-loop
 mul-if2-2 c = search needs
 
--- src/same.rt:26:20
 shared-slice-read-if2-2 : tie.Need-shared-slice-read-if2-2 Inv-loop μ-loop
 shared-slice-read-if2-2 c = search needs
 
--- src/same.rt:29:9
-add-k : tie.Need-add-k Inv-loop μ-loop
-add-k c = search needs
+add-q : tie.Need-add-q Inv-loop μ-loop
+add-q c = search needs
 
--- src/same.rt:25:5
 loop-less : tie.Need-loop-less Inv-loop μ-loop
 loop-less c = search needs
 
--- src/same.rt:25:5
 loop-again : tie.Need-loop-again Inv-loop μ-loop
 loop-again c = ⊎-elim
     (λ t. rw (t .1) (telling-fails _ (c .before .before .before .before .loop .inv .0) (c .before .before .before .loop-test .taken) (ne-eqb _ _ (t .0 .taken)), c .before .before .before .before .loop .inv .1))
     (λ t. rw (t .1) (telling-holds _ (c .before .before .before .before .loop .inv .0) (c .before .before .before .loop-test .taken) (eq-eqb _ _ (t .0 .left)), c .before .before .before .before .loop .inv .1))
     (c .if2 .came)
 
--- src/same.rt:17:1
 returns-2 : tie.Need-returns-2 Inv-loop μ-loop
 returns-2 c = telling-done _ (c .before .loop .inv .0) (c .loop-test .left) ∙ same-told _ _ (c .before .loop .inv .1)
 
-pub same-spec : {M : Type 1} → statement M
-same-spec =
+pub starts-with-spec : {M : Type 1} → statement M
+starts-with-spec =
     tie.close
     (tie.spec
     Inv-loop
@@ -73,7 +62,7 @@ same-spec =
     shared-slice-read-if2
     mul-if2-2
     shared-slice-read-if2-2
-    add-k
+    add-q
     loop-less
     loop-again
     returns-2)

@@ -7,16 +7,10 @@ use native.Mathlib.Omega.{arith}
 use lib.Dec.{eqb}
 use lib.ListN.{length, getD, take}
 use borrow.Author.Tests.{eq-eqb, eqb-true}
 use Rattle.lists.specs.Folds.{every}
-use Rattle.lists.proofs.Bools.{and-true}
+use Rattle.lists.proofs.Bools.{alike, and-true}
 use Rattle.lists.proofs.Folds.{every-all, every-at}
-use Rattle.cs_pattern.specs.Compare.{startsWith}
-
--- two tests that hold together
-pub alike : (a b : Bool) → (a ≡ true → b ≡ true) → (b ≡ true → a ≡ true) → a ≡ b
-alike true b f g = sym (f refl)
-alike false true f g = g refl
-alike false false f g = refl
+use Rattle.lists.specs.Order.{startsWith}
 
 pub begins : (xs l : List ℕ) → startsWith xs l ≡ true → take (length xs) l ≡ xs
 unfolding startsWith
@@ -77,7 +71,7 @@ starts-take (x ∷ xs) l zero h = absurd (omega arith)
 starts-take (x ∷ xs) [] (suc m) h = refl
 starts-take (x ∷ xs) (y ∷ l) (suc m) h = ap (λ (b : Bool). eqb x y && b) (starts-take xs l m (omega arith))
 
--- ---- `same`: every place is looked at
+-- ---- `starts_with`: every place is looked at
 abbrev pub sameAt : List ℕ → List ℕ → ℕ → Bool
 sameAt a b k = eqb (getD a k 0) (getD b k 0)
 
