@@ -25,7 +25,7 @@ use Rattle.cs_solve.proofs.Steps.{lower-set, lower-above, length-forwardColumn}
 use Rattle.cs_solve.proofs.Turns.{forward-step}
 use Rattle.cs_solve_cs.specs.SolveCs.{putAt}
 use Rattle.cs_solve_cs.specs.Steps.{marked, marks, Room}
-use Rattle.lists.proofs.Chosen.{along-more, map-more, chosen-grows, chosen-within, chosen-member}
+use Rattle.lists.proofs.Chosen.{along-more, map-more, chosen-grows, chosen-member}
 
 -- ---- a mark read
 module _ (w : List ℕ) (j : ℕ) where
@@ -154,9 +154,6 @@ module _ {n : ℕ} {w : List ℕ} {x : List Float} {xi₀ : List ℕ} {xv₀ : L
     pub at-in-v : at < length xv
     at-in-v = omega (arith, room, g .count, g .ask .in-v, v-long)
 
-    pub at-small : at < 65535
-    at-small = omega (arith, g .count, chosen-within (marked w) j, g .ask .small)
-
     pub gathering-on : Gathering n w x xi₀ xv₀ (set xi at j) (set xv at (getD x j nan)) (at + 1) (j + 1)
     gathering-on =
         let len = length-map l (λ (k : ℕ). getD x k nan) in
@@ -222,8 +219,5 @@ module _ {n : ℕ} {p i : List ℕ} {v : List Float} {w : List ℕ} {x₀ : List
         pub out-v : at < length xv
         out-v = at-in-v moved h t
 
-        pub out-small : at < 65535
-        out-small = at-small moved h t
-
-        pub serving-on : Serving n p i v w x₀ xi₀ xv₀ y (set xi at j) (set xv at (getD y j nan)) (at + 1) (j + 1)
-        serving-on = record { valid = s .valid; steps = forwarding-on (s .steps) h t c q u; out = gathering-on moved h t }
+        pub serving-on : {xi' : List ℕ} {xv' : List Float} {at' : ℕ} → (at' ≡ at + 1) × (xi' ≡ set xi at j) × (xv' ≡ set xv at (getD y j nan)) → Serving n p i v w x₀ xi₀ xv₀ y xi' xv' at' (j + 1)
+        serving-on z = rw (z .0, z .1, z .2) (record { valid = s .valid; steps = forwarding-on (s .steps) h t c q u; out = gathering-on moved h t })

@@ -1,8 +1,9 @@
 // The right side's values, and the forward steps over the marked columns, which write the result.
 ghost use mathlib.Core.Path.{_≡_};
+ghost use Prim.Native.Nat.{_+_, _<_};
 ghost use mathlib.Core.List.{map};
 ghost use lib.Ieee.{nan};
-ghost use lib.ListN.{getD};
+ghost use lib.ListN.{length, getD, set};
 ghost use Rattle.lists.specs.Calls.{onto};
 ghost use Rattle.lists.specs.Folds.{along, over};
 ghost use Rattle.cs_matrix.specs.Matrix.{matrix, Valid};
@@ -25,6 +26,16 @@ pub fn put(rows: &[u32], vals: &[f64], x: &mut [f64])
         }
         k += 1;
     }
+}
+
+// A value of the result and its row, written at `at`. The answer is the place behind them.
+fn push(row: usize, value: f64, at: usize, xi: &mut [u32], xv: &mut [f64]) -> usize
+    requires { ⌜ (row < 65535) × (at < length (now xi)) × (at < length (now xv)) ⌝ }
+    ensures { λ r. ⌜ (r ≡ at + 1) × (now (xi .exit) ≡ set (now (xi .entry)) at row) × (now (xv .exit) ≡ set (now (xv .entry)) at value) ⌝ }
+{
+    xi[at] = row as u32;
+    xv[at] = value;
+    at + 1
 }
 
 // The forward steps over the marked columns, rising. No later column changes the value of this one, so that each is written at once.
@@ -50,10 +61,7 @@ pub fn forward(
             let e = wide(p[j + 1]);
             let d = value_at(j, &i[a..e], &v[a..e]);
             forward_at(j, d, &i[a..e], &v[a..e], x);
-            let value = x[j];
-            xi[at] = j as u32;
-            xv[at] = value;
-            at += 1;
+            at = push(j, x[j], at, xi, xv);
         }
     }
 }

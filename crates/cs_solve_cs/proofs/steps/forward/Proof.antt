@@ -3,7 +3,7 @@ use mathlib.Core.Logic.{⊎-elim}
 use Prim.Native.Nat.{_-_}
 use native.Mathlib.Omega.{arith}
 use borrow.Author.Needs.{needs}
-use Rattle.cs_solve_cs.proofs.Stepping.{i-long, v-long, Serving, serving-start, serving-on, serving-off, serving-end, value-in, out-i, out-v, out-small}
+use Rattle.cs_solve_cs.proofs.Stepping.{i-long, v-long, Serving, serving-start, serving-on, serving-off, serving-end, value-in, out-i, out-v}
 use Rattle.cs_solve.proofs.Columns.{handed, j-small}
 use Rattle.cs_solve_cs.proofs.steps.forward.Statement.{statement}
 use Rattle.cs_solve_cs.proofs.steps.forward.Tie as tie
@@ -98,29 +98,14 @@ part-forward-at-end-2 c = (handed (c .before .before .before .before .before .be
 forward-at-requires : tie.Need-forward-at-requires Inv-loop μ-loop
 forward-at-requires c κs = search needs
 
-mul-value : tie.Need-mul-value Inv-loop μ-loop
-mul-value c = omega (arith, j-small (c .before .before .before .before .before .before .before .before .before .before .before .before .before .before .before .before .loop .inv .valid) (c .before .before .before .before .before .before .before .before .before .before .before .before .before .before .before .loop-test .taken))
+mul-push : tie.Need-mul-push Inv-loop μ-loop
+mul-push c = omega (arith, j-small (c .before .before .before .before .before .before .before .before .before .before .before .before .before .before .before .before .loop .inv .valid) (c .before .before .before .before .before .before .before .before .before .before .before .before .before .before .before .loop-test .taken))
 
-slice-read-value : tie.Need-slice-read-value Inv-loop μ-loop
-slice-read-value c = value-in (c .before .before .before .before .before .before .before .before .before .before .before .before .before .before .before .before .before .loop .inv) (c .before .before .before .before .before .before .before .before .before .before .before .before .before .before .before .before .loop-test .taken) (handed (c .before .before .before .before .before .before .before .before .before .before .before .before .before .before .before .before .before .loop .inv .valid) (c .before .before .before .before .before .before .before .before .before .before .before .before .before .before .before .before .loop-test .taken) (c .before .before .before .before .before .before .before .before .before .before .before .before .wide .ensures .0) (c .before .before .before .before .before .before .before .before .before .before .wide2 .ensures .0)) (c .before .before .before .before .before .before .before .value-at .ensures) (c .before .before .before .forward-at .ensures)
+slice-read-push : tie.Need-slice-read-push Inv-loop μ-loop
+slice-read-push c = value-in (c .before .before .before .before .before .before .before .before .before .before .before .before .before .before .before .before .before .loop .inv) (c .before .before .before .before .before .before .before .before .before .before .before .before .before .before .before .before .loop-test .taken) (handed (c .before .before .before .before .before .before .before .before .before .before .before .before .before .before .before .before .before .loop .inv .valid) (c .before .before .before .before .before .before .before .before .before .before .before .before .before .before .before .before .loop-test .taken) (c .before .before .before .before .before .before .before .before .before .before .before .before .wide .ensures .0) (c .before .before .before .before .before .before .before .before .before .before .wide2 .ensures .0)) (c .before .before .before .before .before .before .before .value-at .ensures) (c .before .before .before .forward-at .ensures)
 
-cast-xi : tie.Need-cast-xi Inv-loop μ-loop
-cast-xi c = omega (arith, j-small (c .before .before .before .before .before .before .before .before .before .before .before .before .before .before .before .before .before .loop .inv .valid) (c .before .before .before .before .before .before .before .before .before .before .before .before .before .before .before .before .loop-test .taken))
-
-mul-xi : tie.Need-mul-xi Inv-loop μ-loop
-mul-xi c = omega (arith, out-small (c .before .before .before .before .before .before .before .before .before .before .before .before .before .before .before .before .before .loop .inv) (c .before .before .before .before .before .before .before .before .before .before .before .before .before .before .before .before .loop-test .taken) (handed (c .before .before .before .before .before .before .before .before .before .before .before .before .before .before .before .before .before .loop .inv .valid) (c .before .before .before .before .before .before .before .before .before .before .before .before .before .before .before .before .loop-test .taken) (c .before .before .before .before .before .before .before .before .before .before .before .before .wide .ensures .0) (c .before .before .before .before .before .before .before .before .before .before .wide2 .ensures .0)) (c .before .before .before .before .before .before .before .value-at .ensures) (c .before .before .before .forward-at .ensures) (c .before .before .before .before .before .before .before .before .before .before .before .before .before .before .if1 .taken))
-
-slice-write-xi : tie.Need-slice-write-xi Inv-loop μ-loop
-slice-write-xi c = out-i (c .before .before .before .before .before .before .before .before .before .before .before .before .before .before .before .before .before .loop .inv) (c .before .before .before .before .before .before .before .before .before .before .before .before .before .before .before .before .loop-test .taken) (handed (c .before .before .before .before .before .before .before .before .before .before .before .before .before .before .before .before .before .loop .inv .valid) (c .before .before .before .before .before .before .before .before .before .before .before .before .before .before .before .before .loop-test .taken) (c .before .before .before .before .before .before .before .before .before .before .before .before .wide .ensures .0) (c .before .before .before .before .before .before .before .before .before .before .wide2 .ensures .0)) (c .before .before .before .before .before .before .before .value-at .ensures) (c .before .before .before .forward-at .ensures) (c .before .before .before .before .before .before .before .before .before .before .before .before .before .before .if1 .taken)
-
-mul-xv : tie.Need-mul-xv Inv-loop μ-loop
-mul-xv c = omega (arith, out-small (c .before .before .before .before .before .before .before .before .before .before .before .before .before .before .before .before .before .loop .inv) (c .before .before .before .before .before .before .before .before .before .before .before .before .before .before .before .before .loop-test .taken) (handed (c .before .before .before .before .before .before .before .before .before .before .before .before .before .before .before .before .before .loop .inv .valid) (c .before .before .before .before .before .before .before .before .before .before .before .before .before .before .before .before .loop-test .taken) (c .before .before .before .before .before .before .before .before .before .before .before .before .wide .ensures .0) (c .before .before .before .before .before .before .before .before .before .before .wide2 .ensures .0)) (c .before .before .before .before .before .before .before .value-at .ensures) (c .before .before .before .forward-at .ensures) (c .before .before .before .before .before .before .before .before .before .before .before .before .before .before .if1 .taken))
-
-slice-write-xv : tie.Need-slice-write-xv Inv-loop μ-loop
-slice-write-xv c = out-v (c .before .before .before .before .before .before .before .before .before .before .before .before .before .before .before .before .before .loop .inv) (c .before .before .before .before .before .before .before .before .before .before .before .before .before .before .before .before .loop-test .taken) (handed (c .before .before .before .before .before .before .before .before .before .before .before .before .before .before .before .before .before .loop .inv .valid) (c .before .before .before .before .before .before .before .before .before .before .before .before .before .before .before .before .loop-test .taken) (c .before .before .before .before .before .before .before .before .before .before .before .before .wide .ensures .0) (c .before .before .before .before .before .before .before .before .before .before .wide2 .ensures .0)) (c .before .before .before .before .before .before .before .value-at .ensures) (c .before .before .before .forward-at .ensures) (c .before .before .before .before .before .before .before .before .before .before .before .before .before .before .if1 .taken)
-
-add-at : tie.Need-add-at Inv-loop μ-loop
-add-at c = let h = out-small (c .before .before .before .before .before .before .before .before .before .before .before .before .before .before .before .before .before .loop .inv) (c .before .before .before .before .before .before .before .before .before .before .before .before .before .before .before .before .loop-test .taken) (handed (c .before .before .before .before .before .before .before .before .before .before .before .before .before .before .before .before .before .loop .inv .valid) (c .before .before .before .before .before .before .before .before .before .before .before .before .before .before .before .before .loop-test .taken) (c .before .before .before .before .before .before .before .before .before .before .before .before .wide .ensures .0) (c .before .before .before .before .before .before .before .before .before .before .wide2 .ensures .0)) (c .before .before .before .before .before .before .before .value-at .ensures) (c .before .before .before .forward-at .ensures) (c .before .before .before .before .before .before .before .before .before .before .before .before .before .before .if1 .taken) in record { fits = omega arith }
+push-requires : tie.Need-push-requires Inv-loop μ-loop
+push-requires c κs = (j-small (c .before .before .before .before .before .before .before .before .before .before .before .before .before .before .before .before .before .before .before .loop .inv .valid) (c .before .before .before .before .before .before .before .before .before .before .before .before .before .before .before .before .before .before .loop-test .taken), out-i (c .before .before .before .before .before .before .before .before .before .before .before .before .before .before .before .before .before .before .before .loop .inv) (c .before .before .before .before .before .before .before .before .before .before .before .before .before .before .before .before .before .before .loop-test .taken) (handed (c .before .before .before .before .before .before .before .before .before .before .before .before .before .before .before .before .before .before .before .loop .inv .valid) (c .before .before .before .before .before .before .before .before .before .before .before .before .before .before .before .before .before .before .loop-test .taken) (c .before .before .before .before .before .before .before .before .before .before .before .before .before .before .wide .ensures .0) (c .before .before .before .before .before .before .before .before .before .before .before .before .wide2 .ensures .0)) (c .before .before .before .before .before .before .before .before .before .value-at .ensures) (c .before .before .before .before .before .forward-at .ensures) (c .before .before .before .before .before .before .before .before .before .before .before .before .before .before .before .before .if1 .taken), out-v (c .before .before .before .before .before .before .before .before .before .before .before .before .before .before .before .before .before .before .before .loop .inv) (c .before .before .before .before .before .before .before .before .before .before .before .before .before .before .before .before .before .before .loop-test .taken) (handed (c .before .before .before .before .before .before .before .before .before .before .before .before .before .before .before .before .before .before .before .loop .inv .valid) (c .before .before .before .before .before .before .before .before .before .before .before .before .before .before .before .before .before .before .loop-test .taken) (c .before .before .before .before .before .before .before .before .before .before .before .before .before .before .wide .ensures .0) (c .before .before .before .before .before .before .before .before .before .before .before .before .wide2 .ensures .0)) (c .before .before .before .before .before .before .before .before .before .value-at .ensures) (c .before .before .before .before .before .forward-at .ensures) (c .before .before .before .before .before .before .before .before .before .before .before .before .before .before .before .before .if1 .taken))
 
 add-j : tie.Need-add-j Inv-loop μ-loop
 add-j c = search needs
@@ -133,7 +118,7 @@ loop-again c =
     let s = c .before .before .before .loop .inv in
     let h = c .before .before .loop-test .taken in
     ⊎-elim
-    (λ t. rw (t .15, t .16, t .17, t .18) (serving-on s h (handed (s .valid) h (t .2 .ensures .0) (t .4 .ensures .0)) (t .7 .ensures) (t .11 .ensures) (t .0 .taken)))
+    (λ t. rw (t .22, t .23, t .24, t .25) (serving-on s h (handed (s .valid) h (t .2 .ensures .0) (t .4 .ensures .0)) (t .7 .ensures) (t .11 .ensures) (t .0 .taken) (t .17 .ensures)))
     (λ t. rw (t .1, t .2, t .3, t .4) (serving-off s h (t .0 .left)))
     (c .if1 .came)
 
@@ -183,14 +168,9 @@ forward-spec =
     part-forward-at-start-2
     part-forward-at-end-2
     forward-at-requires
-    mul-value
-    slice-read-value
-    cast-xi
-    mul-xi
-    slice-write-xi
-    mul-xv
-    slice-write-xv
-    add-at
+    mul-push
+    slice-read-push
+    push-requires
     add-j
     loop-less
     loop-again
