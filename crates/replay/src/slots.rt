@@ -1,10 +1,12 @@
 // A case's slices on standard input and output: elements one after the other, the lowest byte first.
-ghost use Prim.Native.Nat.{_≤_, _<_};
-ghost use lib.ListN.{length};
+ghost use Prim.Native.Nat.{_≤_};
 use float_bits::bits_of;
 use float_bits::of_bits;
 use libc::STDIN_FILENO;
 use libc::STDOUT_FILENO;
+use little::put;
+use little::u32_at;
+use little::u64_at;
 
 // No slice of a case is longer.
 pub fn capped(n: u32) -> usize
@@ -26,58 +28,8 @@ fn moved(n: usize) -> usize
     n
 }
 
-fn byte(b: u8) -> u32
-    ensures { λ r. ⌜ r < 256 ⌝ }
-{
-    b as u32
-}
-
-fn pair(a: u8, b: u8) -> u32
-    ensures { λ r. ⌜ r < 65536 ⌝ }
-{
-    byte(a) + 256 * byte(b)
-}
-
-fn wide(x: u32) -> u64
-    ensures { λ r. ⌜ r < 4294967296 ⌝ }
-{
+fn wide(x: u32) -> u64 {
     x as u64
-}
-
-fn low(x: u64) -> u8 {
-    (x % 256) as u8
-}
-
-// The number in the four bytes at a place, 0 past the end.
-pub fn word_at(raw: &[u8], at: usize) -> u32 {
-    if raw.len() < 4 {
-        return 0;
-    }
-    if at > raw.len() - 4 {
-        return 0;
-    }
-    pair(raw[at], raw[at + 1]) + 65536 * pair(raw[at + 2], raw[at + 3])
-}
-
-fn bits(least: u32, most: u32) -> u64 {
-    wide(least) + 4294967296 * wide(most)
-}
-
-fn put_byte(x: u64, at: usize, raw: &mut [u8]) {
-    if at < raw.len() {
-        raw[at] = low(x);
-    }
-}
-
-// The four lowest bytes of x, at a place.
-fn put(x: u64, at: usize, raw: &mut [u8]) {
-    if at > 32768 {
-        return;
-    }
-    put_byte(x, at, raw);
-    put_byte(x / 256, at + 1, raw);
-    put_byte(x / 65536, at + 2, raw);
-    put_byte(x / 16777216, at + 3, raw);
 }
 
 pub fn put_word(x: u32, at: usize, out: &mut [u32]) {
@@ -95,34 +47,28 @@ fn put_value(x: f64, at: usize, out: &mut [f64]) {
 fn words_of(raw: &[u8], out: &mut [u32]) {
     let n = moved(out.len());
     for k in 0..n {
-        put_word(word_at(raw, 4 * k), k, out);
+        put_word(u32_at(raw, 4 * k), k, out);
     }
 }
 
 fn values_of(raw: &[u8], out: &mut [f64]) {
     let n = moved(out.len());
     for k in 0..n {
-        put_value(
-            of_bits(bits(word_at(raw, 8 * k), word_at(raw, 8 * k + 4))),
-            k,
-            out,
-        );
+        put_value(of_bits(u64_at(raw, 8 * k)), k, out);
     }
 }
 
 fn of_words(a: &[u32], raw: &mut [u8]) {
     let n = moved(a.len());
     for k in 0..n {
-        put(wide(a[k]), 4 * k, raw);
+        put(wide(a[k]), 4, 4 * k, raw);
     }
 }
 
 fn of_values(a: &[f64], raw: &mut [u8]) {
     let n = moved(a.len());
     for k in 0..n {
-        let b = bits_of(a[k]);
-        put(b, 8 * k, raw);
-        put(b / 4294967296, 8 * k + 4, raw);
+        put(bits_of(a[k]), 8, 8 * k, raw);
     }
 }
 
@@ -175,10 +121,8 @@ pub fn read_head(h: &mut [u32]) -> bool {
 // The answer: number, column, pivot.
 pub fn save_answer(number: u32, column: u32, pivot: f64) {
     let mut raw = [0u8; 16];
-    let b = bits_of(pivot);
-    put(wide(number), 0, &mut raw);
-    put(wide(column), 4, &mut raw);
-    put(b, 8, &mut raw);
-    put(b / 4294967296, 12, &mut raw);
+    put(wide(number), 4, 0, &mut raw);
+    put(wide(column), 4, 4, &mut raw);
+    put(bits_of(pivot), 8, 8, &mut raw);
     write(16, &raw);
 }

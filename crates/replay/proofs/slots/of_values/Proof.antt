@@ -33,15 +33,6 @@ mul-put c = search needs
 put-requires : tie.Need-put-requires Inv-loop μ-loop
 put-requires c κs = search needs
 
-mul-put-2 : tie.Need-mul-put-2 Inv-loop μ-loop
-mul-put-2 c = search needs
-
-add-put : tie.Need-add-put Inv-loop μ-loop
-add-put c = search needs
-
-put-requires-2 : tie.Need-put-requires-2 Inv-loop μ-loop
-put-requires-2 c κs = search needs
-
 add-k : tie.Need-add-k Inv-loop μ-loop
 add-k c = search needs
 
@@ -70,9 +61,6 @@ of-values-spec =
     bits-of-requires
     mul-put
     put-requires
-    mul-put-2
-    add-put
-    put-requires-2
     add-k
     loop-less
     loop-again
