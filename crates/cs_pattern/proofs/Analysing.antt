@@ -3,7 +3,7 @@ use mathlib.Core.Path.{_≡_, refl, sym, ap, _∙_}
 use mathlib.Core.Bool.{Bool, true, false, cond, _||_}
 use mathlib.Core.List.{List, [], _∷_, _++_, append-assoc, flatten}
 use mathlib.Core.Logic.{⊎-elim}
-use Prim.Native.Nat.{ℕ, _+_, _-_, _≤_, _<_, _^_, min}
+use Prim.Native.Nat.{ℕ, _+_, _-_, _≤_, _<_, _^_}
 use native.Mathlib.Omega.{arith}
 use lib.Dec.{ltb, eqb}
 use lib.Ieee.{Float}
@@ -87,10 +87,10 @@ module _ {n t : ℕ} {p i : List ℕ} (v : ValidPattern (pattern n n p i)) {w1 w
     starts-size : length (starts 0 L) ≡ n + 1
     starts-size = omega (arith, length-starts 0 L, many)
 
-    pub next-long : length (placed 0 (n + 1) w3 a) ≡ length w3
+    next-long : length (placed 0 (n + 1) w3 a) ≡ length w3
     next-long = rw next-is (length-onto w3 (starts 0 L) (omega (arith, starts-size, r .w3-long)))
 
-    pub next-end : n + 1 ≤ length (placed 0 (n + 1) w3 a)
+    next-end : n + 1 ≤ length (placed 0 (n + 1) w3 a)
     next-end = rw next-long (r .w3-long)
 
     next-part : length (part 1 (n + 1) (placed 0 (n + 1) w3 a)) ≡ n
@@ -125,7 +125,7 @@ module _ {n t : ℕ} {p i : List ℕ} (v : ValidPattern (pattern n n p i)) {w1 w
     )
 
     -- the counts once they have been used up
-    pub next-back : (ys : List ℕ) → length ys ≡ length (part 1 (n + 1) (placed 0 (n + 1) w3 a)) → length (placed 1 (n + 1) (placed 0 (n + 1) w3 a) ys) ≡ length w3
+    next-back : (ys : List ℕ) → length ys ≡ length (part 1 (n + 1) (placed 0 (n + 1) w3 a)) → length (placed 1 (n + 1) (placed 0 (n + 1) w3 a) ys) ≡ length w3
     next-back ys e = length-placed 1 (n + 1) (placed 0 (n + 1) w3 a) ys (omega arith) next-end (omega (arith, next-part)) ∙ next-long
 
     next-kept : (ys : List ℕ) → length ys ≡ length (part 1 (n + 1) (placed 0 (n + 1) w3 a)) → Kept 0 (n + 1) w3 (placed 1 (n + 1) (placed 0 (n + 1) w3 a) ys)

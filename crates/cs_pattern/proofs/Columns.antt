@@ -36,6 +36,9 @@ module _ {n : ℕ} {p i : List ℕ} (v : ValidPattern (pattern n n p i)) where
   pub columns-long : n ≡ length C
   columns-long = sym (length-columns (pattern n n p i))
 
+  pub few-columns : length C ≤ n
+  few-columns = omega (arith, columns-long)
+
   pub inside : {k : ℕ} → k < n → k < length C
   inside h = omega (arith, columns-long)
 

@@ -30,7 +30,7 @@ use Rattle.lists.specs.Order.{startsWith}
 use Rattle.cs_pattern.specs.Compare.{same, tight}
 use Rattle.cs_pattern.specs.Steps.{Outlined, Known}
 use Rattle.cs_pattern.proofs.Columns.{columns-fit, columns-long}
-use Rattle.cs_pattern.proofs.Filled.{tree-size, upper-size, tree-part, begin-asks}
+use Rattle.cs_pattern.proofs.Filled.{tree-size, upper-size, tree-part, outline-asks}
 use Rattle.lists.proofs.Bools.{alike}
 use Rattle.lists.proofs.Matching.{starts-places, starts-at, starts-long}
 
@@ -113,7 +113,7 @@ module _ {n : ℕ} {p i : List ℕ} (v : ValidPattern (pattern n n p i)) (tr up 
 
     pub read-asks : {w2b : List ℕ} → w2b ≡ cleared 0 n (placed 0 n w2 a) → n < length up
         → ValidPattern (pattern n n p i) × Given C (part 0 n (placed 0 n w1 t)) × (length (part 0 n w2b) ≡ n) × Zeros (part 0 n w2b) × (n < length up)
-    read-asks g u = let b = begin-asks v w1 w2 w1 a l1 l2 l1 e f g in (b .0, b .1, b .2, b .3, u)
+    read-asks g u = let b = outline-asks v w1 w2 w1 a l1 l2 l1 e f g in (b .0, b .1, b .2, b .3, u)
 
 -- ---- `judge_lower`
 module _ {n t : ℕ} {up ui : List ℕ} (room : ℕ) (lp li : List ℕ) where

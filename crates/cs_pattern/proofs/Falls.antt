@@ -1,9 +1,11 @@
 -- The loop of `fill_columns`, from the last column to the first: what each call in it is given. Assumes nothing.
-use mathlib.Core.Path.{_≡_, _∙_}
+use mathlib.Core.Path.{_≡_}
+use mathlib.Core.Bool.{true}
 use mathlib.Core.List.{List, []}
 use Prim.Native.Nat.{ℕ, suc, _+_, _-_, _≤_, _<_}
 use native.Mathlib.Omega.{arith}
 use lib.ListN.{length, getD, set}
+use Rattle.lists.specs.Order.{rises}
 use Rattle.lists.specs.Parts.{part}
 use Rattle.cs_matrix.specs.Matrix.{pattern, ValidPattern}
 use Rattle.cs_matrix.proofs.Pointers.{Between}
@@ -12,7 +14,7 @@ use Rattle.cs_tree.specs.Pattern.{paths}
 use Rattle.cs_tree.specs.Steps.{Given, Marks, Walks}
 use Rattle.cs_tree.proofs.Falling.{Falling, fall-inside, fall-walks, fall-fresh, fall-room, fall-order, fall-end, fall-last, falling-turn}
 use Rattle.cs_pattern.specs.Columns.{columns}
-use Rattle.cs_pattern.proofs.Columns.{columns-long, here, part-is}
+use Rattle.cs_pattern.proofs.Columns.{columns-long, here, part-is, part-rises}
 
 module _ {n : ℕ} {p i par : List ℕ} (v : ValidPattern (pattern n n p i)) (g : Given (columns (pattern n n p i)) par)
     {up₀ ui₀ next₀ li₀ mark up ui next li : List ℕ} {top k : ℕ} (F : Falling (columns (pattern n n p i)) up₀ ui₀ next₀ li₀ mark up ui next li top k) where
@@ -42,13 +44,14 @@ module _ {n : ℕ} {p i par : List ℕ} (v : ValidPattern (pattern n n p i)) (g 
       rows-are : part a e i ≡ getD (columns (pattern n n p i)) (k - 1) []
       rows-are = part-is v falls-in x y
 
-      pub falls-asks : (n - k < 65535) × Walks (k - 1) par mark × Marks (n - k) mark [] × (top ≤ length ui) × (length (paths par (k - 1) (part a e i) []) ≤ top)
+      pub falls-asks : (n - k < 65535) × Walks (k - 1) par mark × Marks (n - k) mark [] × (top ≤ length ui) × (length (paths par (k - 1) (part a e i) []) ≤ top) × (rises (part a e i) ≡ true)
       falls-asks = (
         omega (arith, v .cols),
         fall-walks g F (k - 1) (n - k) one before rows-are,
         fall-fresh g F (k - 1) (n - k) one before rows-are,
         fall-inside g F,
         fall-room g F (k - 1) (n - k) one before rows-are,
+        part-rises v falls-in x y,
       )
 
       module _ {low : ℕ} {mark1 ui1 : List ℕ} (l : length ui1 ≡ length ui) (r : Reached (n - k) (k - 1) par (part a e i) top ui low mark1 ui1) where

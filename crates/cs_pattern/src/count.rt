@@ -1,10 +1,12 @@
 // How many entries each row of U has, that is each column of L: from each stored row of a column up the tree, with a count where an
 // index is marked. An index that is counted in column k is marked by k + 1.
 ghost use mathlib.Core.Path.{_≡_};
+ghost use mathlib.Core.Bool.{true};
 ghost use mathlib.Core.List.{[], flatten};
 ghost use Prim.Native.Nat.{_≤_, _<_, min};
 ghost use lib.ListN.{length};
 ghost use Rattle.lists.specs.Keeping.{Kept};
+ghost use Rattle.lists.specs.Order.{rises};
 ghost use Rattle.lists.specs.Sums.{counted};
 ghost use Rattle.cs_matrix.specs.Matrix.{pattern, ValidPattern};
 ghost use Rattle.cs_tree.specs.Bumps.{Bumped, Tallied};
@@ -38,15 +40,19 @@ fn count_walk(k: u32, row: u32, par: &[u32], mark: &mut [u32], counts: &mut [u32
     len
 }
 
-// One more at each row of column k of U. The answer is how many there are.
+// One more at each row of column k of U. The answer is how many there are. The stored rows rise, so that the first past k ends them.
 fn count_column(k: u32, rows: &[u32], par: &[u32], mark: &mut [u32], counts: &mut [u32]) -> usize
-    requires { ⌜ Walks k (now par) (now mark) × Marks k (now mark) [] × (length (now rows) ≤ 4194304) × (k < length (now counts)) ⌝ }
+    requires { ⌜ Walks k (now par) (now mark) × Marks k (now mark) [] × (length (now rows) ≤ 4194304) × (k < length (now counts)) × (rises (now rows) ≡ true) ⌝ }
     ensures { λ r. ⌜ Tallied k (now (par .entry)) (now (rows .entry)) r (now (mark .exit)) (now (counts .entry)) (now (counts .exit)) ⌝ }
 {
     let mut count = 0;
     let mut q = 0;
     while q < rows.len() {
-        count += count_walk(k, rows[q], par, mark, counts);
+        let row = rows[q];
+        if row > k {
+            return count;
+        }
+        count += count_walk(k, row, par, mark, counts);
         q += 1;
     }
     count

@@ -1,9 +1,11 @@
 // A column of U: from each of its stored rows up the tree, until the column's number is passed or an index that is listed already.
 // An index that is listed is marked by one more than the columns before it, so that no mark has to be taken back.
 ghost use mathlib.Core.Path.{_≡_};
+ghost use mathlib.Core.Bool.{true};
 ghost use mathlib.Core.List.{[], _++_};
 ghost use Prim.Native.Nat.{_+_, _≤_, _<_};
 ghost use lib.ListN.{length, take, drop};
+ghost use Rattle.lists.specs.Order.{rises};
 ghost use Rattle.cs_tree.specs.Falling.{Reached};
 ghost use Rattle.cs_tree.specs.Pattern.{paths};
 ghost use Rattle.cs_tree.specs.Steps.{Walks, Marks, Roomy, Traced};
@@ -50,7 +52,7 @@ fn shift(len: usize, top: usize, out: &mut [u32]) -> usize
 }
 
 // Column k of U, in out so that it ends at end: a stack filled downward, whose free front each way is listed in first. The answer is
-// where it starts.
+// where it starts. The stored rows rise, so that the first past k ends them.
 pub fn lay(
     k: u32,
     s: u32,
@@ -60,13 +62,18 @@ pub fn lay(
     end: usize,
     out: &mut [u32],
 ) -> usize
-    requires { ⌜ (s < 65535) × Walks k (now par) (now mark) × Marks s (now mark) [] × (end ≤ length (now out)) × (length (paths (now par) k (now rows) []) ≤ end) ⌝ }
+    requires { ⌜ (s < 65535) × Walks k (now par) (now mark) × Marks s (now mark) [] × (end ≤ length (now out)) × (length (paths (now par) k (now rows) []) ≤ end)
+        × (rises (now rows) ≡ true) ⌝ }
     ensures { λ r. ⌜ Reached s k (now (par .entry)) (now (rows .entry)) end (now (out .entry)) r (now (mark .exit)) (now (out .exit)) ⌝ }
 {
     let mut top = end;
     let mut q = 0;
     while q < rows.len() {
-        let len = trace(k, s, rows[q], par, mark, &mut out[0..top]);
+        let row = rows[q];
+        if row > k {
+            return top;
+        }
+        let len = trace(k, s, row, par, mark, &mut out[0..top]);
         top = shift(len, top, out);
         q += 1;
     }

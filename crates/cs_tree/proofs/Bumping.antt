@@ -1,7 +1,7 @@
 -- The loops that count the entries of each row of U: the walk from one row, which counts as it marks, row by row, and column by
 -- column. Assumes nothing.
 use mathlib.Core.Path.{_≡_, refl, sym, ap, _∙_}
-use mathlib.Core.Bool.{false}
+use mathlib.Core.Bool.{true, false}
 use mathlib.Core.List.{List, [], _∷_, _++_, flatten}
 use Prim.Native.Nat.{ℕ, zero, suc, _+_, _*_, _≤_, _<_, _%_, _^_, min}
 use native.Mathlib.Numerals.{add-one}
@@ -10,19 +10,20 @@ use lib.ListN.{length, getD, set, take, length-set}
 use lib.Seq.{getD-set-other, take-suc, take-all}
 use borrow.Author.Tests.{eq-eqb, ne-eqb}
 use Rattle.lists.specs.Keeping.{Kept}
-use Rattle.lists.specs.Order.{lists}
+use Rattle.lists.specs.Order.{lists, rises}
 use Rattle.lists.specs.Sums.{bumped, counted}
 use Rattle.lists.proofs.Keeping.{kept-all, kept-then, kept-wider}
 use Rattle.lists.proofs.Members.{getD-any}
 use Rattle.lists.proofs.Recounting.{counted-append, counted-front, counted-none, counted-one}
-use Rattle.lists.proofs.Positions.{flatten-last}
 use Rattle.cs_tree.specs.Tree.{root}
 use Rattle.cs_tree.specs.Pattern.{path, paths, upper, entries}
 use Rattle.lists.specs.Keeping.{Zeros}
-use Rattle.cs_tree.specs.Steps.{Marks, Walks, Walked, way, Given}
+use Rattle.cs_tree.specs.Steps.{Marks, Walks, way, Given}
 use Rattle.cs_tree.specs.Bumps.{Bumped, Tallied}
 use Rattle.cs_tree.proofs.Filling.{given-column, column-short, upper-long}
+use Rattle.lists.proofs.Positions.{flatten-last}
 use Rattle.cs_tree.proofs.Laid.{entries-more, entries-part}
+use Rattle.cs_tree.proofs.Past.{listing-past}
 use Rattle.cs_tree.proofs.Steps.{path-over, path-seen, path-new}
 use Rattle.cs_tree.proofs.Walking.{marks-fresh, marks-next, Walk, walk-start, walk-up, walk-next, walk-seen, walk-over, not-done, walks-on, Listing, listing-start, listing-turn, listing-done, listing-all}
 
@@ -134,6 +135,14 @@ module _ {k : ℕ} {par rows mark₀ mark counts₀ counts : List ℕ} {count q 
   rowing-done h =
       let d = listing-done (v .is) h in
       record { size = d .0; marks = d .1; kept = v .kept; are = v .are ∙ ap (λ (l : List ℕ). counted l counts₀) (listing-all (v .is) h) }
+
+  -- the rows rise, and the next one is past k
+  pub rowing-past : rises rows ≡ true → k < getD rows q 0 → Tallied k par rows count mark counts₀ counts
+  unfolding listing-past
+  rowing-past r h =
+      let l = listing-past (v .is) r h in
+      let d = listing-done l (omega arith) in
+      record { size = d .0; marks = d .1; kept = v .kept; are = v .are ∙ ap (λ (o : List ℕ). counted o counts₀) (listing-all l (omega arith)) }
 
 -- ---- column by column
 pub record Totting (cols : List (List ℕ)) (counts₀ mark counts : List ℕ) (total k : ℕ) : Type 0 where

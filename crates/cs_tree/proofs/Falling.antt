@@ -1,9 +1,9 @@
 -- The loops that fill U and L from the last column to the first: the rows of a column put into L, and column by column. Assumes
 -- nothing.
 use mathlib.Core.Path.{_≡_, refl, sym, ap, _∙_}
-use mathlib.Core.List.{List, [], _∷_, _++_, append-assoc, flatten, List·Memᴰ}
+use mathlib.Core.List.{List, [], _++_, append-assoc, flatten, List·Memᴰ}
 use mathlib.Core.Logic.{⊎-elim}
-use Prim.Native.Nat.{ℕ, zero, suc, _+_, _-_, _≤_, _<_}
+use Prim.Native.Nat.{ℕ, suc, _+_, _-_, _≤_, _<_}
 use native.Mathlib.Numerals.{add-one}
 use native.Mathlib.Omega.{arith}
 use lib.ListN.{length, getD, set, take, drop, length-set}
@@ -14,7 +14,7 @@ use Rattle.lists.specs.Order.{Once}
 use Rattle.lists.specs.Parts.{part}
 use Rattle.lists.proofs.Bools.{eq-or-ne}
 use Rattle.lists.proofs.Keys.{keys-whole}
-use Rattle.lists.proofs.Parts.{front, left-at, left-none, length-onto}
+use Rattle.lists.proofs.Parts.{front, left-at, left-none}
 use Rattle.lists.proofs.Receding.{Ends, Receding, receding-start, receding-in-w, receding-some, receding-in-out, receding-turn, receding-done}
 use Rattle.cs_tree.specs.Pattern.{paths, upper, lower, transposed, starts, entries}
 use Rattle.lists.specs.Keeping.{Zeros}
@@ -29,13 +29,13 @@ use Rattle.cs_tree.proofs.Promises.{promised, filled}
 use Rattle.cs_tree.proofs.Walking.{marks-fresh, marks-next}
 
 -- ---- one column's rows put into L, the last first; for whatever they stand among
-abbrev pub Backing : (k : ℕ) (rows next₀ li₀ next li : List ℕ) (q : ℕ) → Type 0
-Backing k rows next₀ li₀ next li q = (s : Last k rows next₀ li₀) → Left k rows next₀ li₀ s next li q
+abbrev pub Putting : (k : ℕ) (rows next₀ li₀ next li : List ℕ) (q : ℕ) → Type 0
+Putting k rows next₀ li₀ next li q = (s : Last k rows next₀ li₀) → Left k rows next₀ li₀ s next li q
 
-pub backing-start : {k : ℕ} {rows next li : List ℕ} → Backing k rows next li next li (length rows)
-backing-start s = s .is
+pub putting-start : {k : ℕ} {rows next li : List ℕ} → Putting k rows next li next li (length rows)
+putting-start s = s .is
 
-module _ {k : ℕ} {rows next₀ li₀ next li : List ℕ} {q : ℕ} (v : Backing k rows next₀ li₀ next li q) (h : 0 < q) (b : q ≤ length rows) {j : ℕ} (e : j ≡ getD rows (q - 1) 0) where
+module _ {k : ℕ} {rows next₀ li₀ next li : List ℕ} {q : ℕ} (v : Putting k rows next₀ li₀ next li q) (h : 0 < q) (b : q ≤ length rows) {j : ℕ} (e : j ≡ getD rows (q - 1) 0) where
   module _ (s : Last k rows next₀ li₀) where
     abbrev at : ℕ
     at = s .at + (q - 1)
@@ -46,20 +46,20 @@ module _ {k : ℕ} {rows next₀ li₀ next li : List ℕ} {q : ℕ} (v : Backin
     row : getD (s .keys) at 0 ≡ j
     row = s .keyed (q - 1) (omega arith) ∙ sym e
 
-    pub backing-row : j < length next
-    backing-row = rw (← row) (receding-in-w (v s) at less)
+    pub putting-row : j < length next
+    putting-row = rw (← row) (receding-in-w (v s) at less)
 
-    pub backing-some : 0 < getD next j 0
-    backing-some = rw (← row) (receding-some (v s) at less)
+    pub putting-some : 0 < getD next j 0
+    putting-some = rw (← row) (receding-some (v s) at less)
 
-    pub backing-place : getD next j 0 - 1 < length li
-    backing-place = rw (← row) (receding-in-out (v s) at less)
+    pub putting-place : getD next j 0 - 1 < length li
+    putting-place = rw (← row) (receding-in-out (v s) at less)
 
-  pub backing-turn : {t : ℕ} → t ≡ getD next j 0 - 1 → Backing k rows next₀ li₀ (set next j (getD next j 0 - 1)) (set li t k) (q - 1)
-  backing-turn e s = rw (e, ← s .numbered (q - 1) (omega arith), ← row s) (receding-turn (v s) (at s) (less s))
+  pub putting-turn : {t : ℕ} → t ≡ getD next j 0 - 1 → Putting k rows next₀ li₀ (set next j (getD next j 0 - 1)) (set li t k) (q - 1)
+  putting-turn e s = rw (e, ← s .numbered (q - 1) (omega arith), ← row s) (receding-turn (v s) (at s) (less s))
 
-pub backing-done : {k : ℕ} {rows next₀ li₀ next li : List ℕ} {q : ℕ} → Backing k rows next₀ li₀ next li q → q ≡ 0 → Backing k rows next₀ li₀ next li 0
-backing-done v e s = rw e at (v s)
+pub putting-done : {k : ℕ} {rows next₀ li₀ next li : List ℕ} {q : ℕ} → Putting k rows next₀ li₀ next li q → q ≡ 0 → Putting k rows next₀ li₀ next li 0
+putting-done v e s = rw e at (v s)
 
 -- ---- column by column: from k on they are laid, and start at top
 pub record Falling (cols : List (List ℕ)) (up₀ ui₀ next₀ li₀ mark up ui next li : List ℕ) (top k : ℕ) : Type 0 where

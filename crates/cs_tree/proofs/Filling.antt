@@ -1,25 +1,21 @@
--- The loops over the columns of U: how long each is, and each laid behind the earlier ones. Assumes nothing.
+-- The columns of U: the loop that counts how long each is, and where each lies between its pointers. Assumes nothing.
 use mathlib.Core.Path.{_≡_, refl, sym, ap, _∙_}
-use mathlib.Core.List.{List, [], _∷_, _++_, flatten}
+use mathlib.Core.List.{List, []}
 use mathlib.Core.Logic.{⊎-elim}
 use Prim.Native.Nat.{ℕ, suc, _+_, _-_, _≤_, _<_, min}
-use native.Mathlib.Numerals.{add-one}
 use native.Mathlib.Omega.{arith}
 use lib.ListN.{length, getD, set, take, length-set}
-use lib.Seq.{getD-set-same, getD-set-other, take-suc, take-all, ext-getD}
-use Rattle.lists.specs.Calls.{onto}
-use Rattle.lists.specs.Parts.{part, placed}
+use lib.Seq.{getD-set-same, getD-set-other, take-all, ext-getD}
+use Rattle.lists.specs.Parts.{part}
 use Rattle.lists.proofs.Bools.{eq-or-ne}
-use Rattle.lists.proofs.Laying.{onto-placed}
-use Rattle.lists.proofs.Parts.{onto-none, length-onto, length-part}
+use Rattle.lists.proofs.Parts.{length-part}
 use Rattle.cs_tree.specs.Tree.{root}
 use Rattle.cs_tree.specs.Pattern.{paths, upperColumn, upper, entries}
 use Rattle.lists.specs.Keeping.{Zeros}
 use Rattle.cs_tree.specs.Steps.{Marks, Walks, Given, Pointed, lengths}
 use Rattle.cs_tree.proofs.Count.{upperColumn-short}
 use Rattle.cs_tree.proofs.Growing.{tree-long, tree-above}
-use Rattle.cs_tree.proofs.Laid.{entries-more, entries-part, length-lengths, lengths-at, length-laid}
-use Rattle.lists.proofs.Positions.{flatten-last}
+use Rattle.cs_tree.proofs.Laid.{entries-more, entries-part, length-lengths, lengths-at}
 use Rattle.cs_tree.proofs.Laws.{upper-at}
 use Rattle.cs_tree.proofs.Lower.{length-upper}
 use Rattle.cs_tree.proofs.Walking.{marks-fresh, marks-next}
@@ -130,48 +126,3 @@ module _ {cols : List (List ℕ)} {par up : List ℕ} {k b f : ℕ} (g : Given c
   -- the part between them is as long as the column
   pub pointed-part : {rows : List ℕ} (ui : List ℕ) → rows ≡ getD cols k [] → entries (upper cols) ≤ length ui → length (part b f ui) ≡ length (paths par k rows [])
   pointed-part ui e r = length-part b f ui (omega (arith, pointed-end)) ∙ (let z : f - b ≡ length (getD (upper cols) k []) = omega (arith, pointed-size) in z) ∙ sym (ap length (given-column g k e))
-
--- ---- `upper_columns`
-pub record Filling (cols : List (List ℕ)) (ui₀ mark ui : List ℕ) (k : ℕ) : Type 0 where
-  pub within : k ≤ length cols
-  pub m-long : length mark ≡ length cols
-  pub room : entries (upper cols) ≤ length ui₀
-  pub fresh : Marks k mark []
-  pub is : ui ≡ onto ui₀ (flatten (take k (upper cols)))
-
-pub filling-start : {cols : List (List ℕ)} {mark ui : List ℕ} → length mark ≡ length cols → entries (upper cols) ≤ length ui → Zeros mark → Filling cols ui mark ui 0
-unfolding flatten
-filling-start {mark = mark} {ui = ui} a r h = record { within = omega arith; m-long = a; room = r; fresh = marks-fresh 0 mark (λ i l. omega (arith, h .at i l)); is = onto-none ui }
-
-module _ {cols : List (List ℕ)} {par ui₀ mark ui up : List ℕ} {k : ℕ} (g : Given cols par) (p : Pointed (upper cols) up) (v : Filling cols ui₀ mark ui k) where
-  abbrev front : List ℕ
-  front = flatten (take k (upper cols))
-
-  front-long : length front ≡ entries (take k (upper cols))
-  front-long = length-laid (take k (upper cols))
-
-  pub filling-long : length ui ≡ length ui₀
-  filling-long = rw (v .is) (length-onto ui₀ front (omega (arith, front-long, entries-part (upper cols) k, v .room)))
-
-  module _ {rows : List ℕ} {b f : ℕ} (h : k < length cols) (e : rows ≡ getD cols k []) (x : b ≡ getD up k 0) (y : f ≡ getD up (k + 1) 0) where
-    pub filling-inside : f ≤ length ui
-    filling-inside = omega (arith, filling-long, pointed-end g p h x y, v .room)
-
-    pub filling-part : length (part b f ui) ≡ length (paths par k rows [])
-    filling-part = pointed-part g p h x y ui e (omega (arith, filling-long, v .room))
-
-    pub filling-turn : {ys mark1 : List ℕ} → length mark1 ≡ length mark → (ys ≡ paths par k rows []) × Marks k mark1 ys → Filling cols ui₀ mark1 (placed b f ui ys) (k + 1)
-    filling-turn {ys = ys} l r =
-        let w : ys ≡ getD (upper cols) k [] = r .0 ∙ given-column g k e in
-        let s : take (k + 1) (upper cols) ≡ take k (upper cols) ++ (getD (upper cols) k [] ∷ []) = rw add-one (take-suc (upper cols) k [] (rw (upper-long g) h)) in
-        let t : length ys ≡ f - b = rw w (omega (arith, pointed-size g p h x y)) in
-        record {
-          within = omega arith;
-          m-long = l ∙ v .m-long;
-          room = v .room;
-          fresh = marks-next (r .1);
-          is = rw (v .is, s, flatten-last (take k (upper cols)) (getD (upper cols) k [])) (onto-placed ui₀ front ys b f (front-long ∙ sym (pointed-start g p h x y)) (pointed-order g p h x y) t ∙ ap (λ (z : List ℕ). onto ui₀ (front ++ z)) w);
-        }
-
-  pub filling-done : length cols ≤ k → ui ≡ onto ui₀ (flatten (upper cols))
-  filling-done h = v .is ∙ ap (λ (z : List (List ℕ)). onto ui₀ (flatten z)) (take-all k (upper cols) (omega (arith, upper-long g)))

@@ -32,8 +32,8 @@ pub record Growing (cols : List (List ℕ)) (par anc : List ℕ) (k : ℕ) : Typ
   pub within : k ≤ length cols
   pub is : forest par anc ≡ treeTo cols k
 
-pub growing-start : (cols : List (List ℕ)) {n : ℕ} (p a : List ℕ) {par anc : List ℕ} → length cols ≤ root → n ≡ length cols → length p ≡ n → length a ≡ n → par ≡ cleared root n p → anc ≡ cleared root n a → Growing cols par anc 0
-unfolding treeTo
+pub growing-start : (cols : List (List ℕ)) {n : ℕ} (p a : List ℕ) {par anc : List ℕ} → length cols ≤ root → n ≡ length cols → length p ≡ n → length a ≡ n → par ≡ cleared 4294967295 n p → anc ≡ cleared 4294967295 n a → Growing cols par anc 0
+unfolding root treeTo
 growing-start cols {n} p a h l b c e f =
     let x : replicate n root ≡ replicate (length cols) root = ap (λ (k : ℕ). replicate k root) l in
     let y = e ∙ cleared-all root n p b ∙ x in

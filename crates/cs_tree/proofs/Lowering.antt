@@ -3,7 +3,7 @@ use mathlib.Core.Path.{_≡_, refl, sym, ap, _∙_}
 use mathlib.Core.Bool.{Bool, true, false, cond}
 use mathlib.Core.List.{List, [], _∷_, _++_, flatten, List·Memᴰ, List·Memᴰ·head, List·Memᴰ·tail}
 use mathlib.Core.Logic.{⊎-elim}
-use Prim.Native.Nat.{ℕ, zero, suc, _+_, _-_, _≤_, _<_, _^_, min}
+use Prim.Native.Nat.{ℕ, zero, suc, _+_, _≤_, _<_, _^_, min}
 use native.Mathlib.Omega.{arith}
 use lib.Dec.{eqb}
 use lib.ListN.{length, getD, take, length-append, List·getD-append}
@@ -21,9 +21,9 @@ use Rattle.lists.proofs.Parts.{length-onto, getD-onto-front, getD-onto-rest}
 use Rattle.lists.proofs.Scattering.{Scatter}
 use Rattle.lists.proofs.Summing.{length-counted, counts-fit, counts-rest}
 use Rattle.cs_tree.specs.Pattern.{starts, entries, transposed}
-use Rattle.cs_tree.specs.Steps.{lengths, numbers, Pointed, Spreads, Whole}
+use Rattle.cs_tree.specs.Steps.{lengths, numbers, Spreads, Whole}
 use Rattle.cs_tree.proofs.Count.{length-starts, entries-across}
-use Rattle.cs_tree.proofs.Laid.{sums-starts, start-at, length-laid, length-numbers, length-lengths, transposed-length, transposed-start, length-transposed, laid-transposed}
+use Rattle.cs_tree.proofs.Laid.{sums-starts, length-laid, length-numbers, length-lengths, transposed-length, transposed-start, length-transposed, laid-transposed}
 
 -- ---- `cumsum` on the fronts of two slices
 -- what is summed
@@ -51,14 +51,6 @@ module _ (us : List (List ℕ)) (m : ℕ) (a b : List ℕ) (e : m ≡ length us 
 
   pub sums-b : {b1 : List ℕ} → b1 ≡ onto (part 0 m b) (sums 0 (fronts m a b)) → placed 0 m b b1 ≡ onto b (starts 0 us)
   sums-b g = ap (placed 0 m b) g ∙ fronted b long-b
-
--- pointers written to a front
-pub pointed-onto : (us : List (List ℕ)) (d : List ℕ) → length us < length d → Pointed us (onto d (starts 0 us))
-pointed-onto us d h =
-    record {
-      long = rw (length-onto d (starts 0 us) (omega (arith, length-starts 0 us))) h;
-      at = λ k l. getD-onto-front d (starts 0 us) 0 k (omega (arith, length-starts 0 us)) ∙ start-at us k l;
-    }
 
 -- ---- L
 key-lengths : {A B : Type 0} (j : ℕ) (ks : List ℕ) (xs : List A) (ys : List B) → length xs ≡ length ys → length (ofKey j ks xs) ≡ length (ofKey j ks ys)

@@ -57,7 +57,7 @@ pub climbs-all : (k : ℕ) {rows : List ℕ} {s₀ s : Forest} {q : ℕ} → Alo
 unfolding climbs
 climbs-all k {rows = rows} {s = s} {q = q} v r h = all v (climbs-past k (drop q rows) s (rises-drop q rows r) (omega (arith, first rows q)))
 
-pub listing-past : {s k : ℕ} {par rows mark : List ℕ} {count q : ℕ} → Listing s k par rows mark count q → rises rows ≡ true → k < getD rows q 0 → Listing s k par rows mark count (length rows)
+unfoldable pub listing-past : {s k : ℕ} {par rows mark : List ℕ} {count q : ℕ} → Listing s k par rows mark count q → rises rows ≡ true → k < getD rows q 0 → Listing s k par rows mark count (length rows)
 listing-past {k = k} {par = par} v r h = record { older = v .older; is = paths-all k par (v .is) r h; marks = v .marks; counts = v .counts }
 
 pub rows-past : {k : ℕ} {rows t₀ a₀ t a : List ℕ} {q : ℕ} → Rows k rows t₀ a₀ t a q → rises rows ≡ true → k ≤ getD rows q 0 → forest t a ≡ climbs k rows (forest t₀ a₀)

@@ -1,14 +1,14 @@
 -- The loops that write a column of U: the walk from one row, which lists as it goes; the way moved up to where it belongs; and row
 -- by row. Assumes nothing.
 use mathlib.Core.Path.{_≡_, refl, sym, ap, _∙_}
-use mathlib.Core.Bool.{false}
+use mathlib.Core.Bool.{true, false}
 use mathlib.Core.List.{List, [], _∷_, _++_, append-nil, append-assoc}
 use Prim.Native.Nat.{ℕ, zero, suc, _+_, _-_, _≤_, _<_}
 use native.Mathlib.Omega.{arith}
 use lib.ListN.{length, getD, set, take, drop, length-set, length-append, take-append-drop}
 use lib.Seq.{getD-set-same, getD-set-other, drop-set-lt, drop-length, drop-at, length-take-le, take-append-le}
 use borrow.Author.Tests.{ne-eqb}
-use Rattle.lists.specs.Order.{lists}
+use Rattle.lists.specs.Order.{lists, rises}
 use Rattle.lists.specs.Parts.{part, placed}
 use Rattle.lists.proofs.Laying.{part-front}
 use Rattle.lists.proofs.Members.{getD-any}
@@ -17,6 +17,7 @@ use Rattle.cs_tree.specs.Tree.{root}
 use Rattle.cs_tree.specs.Pattern.{path, paths}
 use Rattle.cs_tree.specs.Steps.{Marks, Walks, Walked, way, Roomy, Traced}
 use Rattle.cs_tree.specs.Falling.{Reached}
+use Rattle.cs_tree.proofs.Past.{listing-past}
 use Rattle.cs_tree.proofs.Steps.{path-new}
 use Rattle.cs_tree.proofs.Walking.{Walk, walk-start, walk-up, walk-next, walk-seen, walk-over, not-done, walks-on, Listing, listing-start, listing-room, listing-turn, listing-done, listing-all}
 
@@ -238,6 +239,14 @@ module _ {s k : ℕ} {par rows mark₀ mark out₀ out : List ℕ} {end top q : 
   reaching-done h =
       let d = listing-done (v .is) h in
       record { size = omega (arith, d .0, v .rest); back = v .back ∙ ap (λ (l : List ℕ). l ++ drop end out₀) (listing-all (v .is) h); marks = d .1 }
+
+  -- the rows rise, and the next one is past k
+  pub reaching-past : rises rows ≡ true → k < getD rows q 0 → Reached s k par rows end out₀ top mark out
+  unfolding listing-past
+  reaching-past r h =
+      let l = listing-past (v .is) r h in
+      let d = listing-done l (omega arith) in
+      record { size = omega (arith, d .0, v .rest); back = v .back ∙ ap (λ (o : List ℕ). o ++ drop end out₀) (listing-all l (omega arith)); marks = d .1 }
 
 -- where it fills a slice
 pub reached-whole : {s k : ℕ} {par rows old mark out : List ℕ} {low : ℕ} → length old ≡ length (paths par k rows []) → Reached s k par rows (length old) old low mark out → (out ≡ paths par k rows []) × Marks s mark out

@@ -1,5 +1,5 @@
 -- `count_column` meets its contract. Assumes nothing.
-use Rattle.cs_tree.proofs.Bumping.{Rowing, rowing-start, rowing-turn, rowing-done}
+use Rattle.cs_tree.proofs.Bumping.{Rowing, rowing-start, rowing-turn, rowing-done, rowing-past}
 use native.Mathlib.Omega.{arith}
 use lib.ListN.{length}
 use Prim.Native.Nat.{_-_, _≤_}
@@ -16,14 +16,23 @@ abbrev μ-loop : tie.MeasureT-loop
 loop-holds : tie.Need-loop-holds Inv-loop μ-loop
 loop-holds c = (rowing-start _ (c .before .before .before .before .pre .0) (c .before .before .before .before .pre .1) (c .before .before .before .before .pre .3), c .before .before .before .before .pre .2)
 
-mul-count-walk : tie.Need-mul-count-walk Inv-loop μ-loop
-mul-count-walk c = search needs
+mul-row : tie.Need-mul-row Inv-loop μ-loop
+mul-row c = search needs
 
-shared-slice-read-count-walk : tie.Need-shared-slice-read-count-walk Inv-loop μ-loop
-shared-slice-read-count-walk c = search needs
+shared-slice-read-row : tie.Need-shared-slice-read-row Inv-loop μ-loop
+shared-slice-read-row c = search needs
+
+same-length : tie.Need-same-length Inv-loop μ-loop
+same-length c = c .before .before .before .loop .inv .0 .same
+
+same-length-2 : tie.Need-same-length-2 Inv-loop μ-loop
+same-length-2 c = c .before .before .before .loop .inv .0 .kept .long
+
+returns : tie.Need-returns Inv-loop μ-loop
+returns c = rowing-past (c .before .before .before .loop .inv .0) (c .before .before .before .before .before .before .before .before .pre .4) (c .if1 .taken)
 
 count-walk-requires : tie.Need-count-walk-requires Inv-loop μ-loop
-count-walk-requires c κs = (c .before .before .before .before .loop .inv .0 .asks, c .before .before .before .before .loop .inv .0 .wide)
+count-walk-requires c κs = (c .before .before .before .before .before .loop .inv .0 .asks, c .before .before .before .before .before .loop .inv .0 .wide)
 
 add-count : tie.Need-add-count Inv-loop μ-loop
 add-count c = search needs
@@ -35,16 +44,16 @@ loop-less : tie.Need-loop-less Inv-loop μ-loop
 loop-less c = search needs
 
 loop-again : tie.Need-loop-again Inv-loop μ-loop
-loop-again c = (rowing-turn (c .before .before .before .before .before .before .before .before .before .loop .inv .0) (c .before .before .before .before .before .before .before .before .loop-test .taken) (c .before .before .before .before .count-walk .kept .1 .1 .1 .0) (c .before .before .before .before .count-walk .ensures), c .before .before .before .before .before .before .before .before .before .loop .inv .1)
+loop-again c = (rowing-turn (c .before .before .before .before .before .before .before .before .before .before .loop .inv .0) (c .before .before .before .before .before .before .before .before .before .loop-test .taken) (c .before .before .before .before .count-walk .kept .1 .1 .1 .0) (c .before .before .before .before .count-walk .ensures), c .before .before .before .before .before .before .before .before .before .before .loop .inv .1)
 
-same-length : tie.Need-same-length Inv-loop μ-loop
-same-length c = search needs
+same-length-3 : tie.Need-same-length-3 Inv-loop μ-loop
+same-length-3 c = c .before .loop .inv .0 .same
 
-same-length-2 : tie.Need-same-length-2 Inv-loop μ-loop
-same-length-2 c = search needs
+same-length-4 : tie.Need-same-length-4 Inv-loop μ-loop
+same-length-4 c = c .before .loop .inv .0 .kept .long
 
-returns : tie.Need-returns Inv-loop μ-loop
-returns c = rowing-done (c .before .loop .inv .0) (c .loop-test .left)
+returns-2 : tie.Need-returns-2 Inv-loop μ-loop
+returns-2 c = rowing-done (c .before .loop .inv .0) (c .loop-test .left)
 
 pub count-column-spec : {M : Type 1} → statement M
 count-column-spec =
@@ -53,13 +62,16 @@ count-column-spec =
     Inv-loop
     μ-loop
     loop-holds
-    mul-count-walk
-    shared-slice-read-count-walk
+    mul-row
+    shared-slice-read-row
+    same-length
+    same-length-2
+    returns
     count-walk-requires
     add-count
     add-q
     loop-less
     loop-again
-    same-length
-    same-length-2
-    returns)
+    same-length-3
+    same-length-4
+    returns-2)

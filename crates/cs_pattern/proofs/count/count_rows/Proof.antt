@@ -2,7 +2,7 @@
 use mathlib.Core.Path.{_∙_, sym}
 use Prim.Native.Nat.{_-_}
 use native.Mathlib.Omega.{arith}
-use Rattle.cs_pattern.proofs.Columns.{inside, few-columns, outside, as-many, part-few, columns-long, here, part-is}
+use Rattle.cs_pattern.proofs.Columns.{inside, few-columns, outside, as-many, part-few, columns-long, here, part-is, part-rises}
 use Rattle.lists.proofs.Keeping.{kept-wider}
 use Rattle.cs_tree.proofs.Bumping.{Totting, totting-start, tot-small, tot-kept, totting-turn, totting-stop, totting-done}
 use Rattle.cs_tree.proofs.Filling.{given-walks}
@@ -58,7 +58,7 @@ part-count-column-end : tie.Need-part-count-column-end Inv-loop μ-loop
 part-count-column-end c = here (c .before .before .before .before .before .before .before .before .before .before .before .pre .0) (c .before .before .before .before .loop-test .taken) (c .before .before .wide .ensures .0) (c .wide2 .ensures .0) .inside
 
 count-column-requires : tie.Need-count-column-requires Inv-loop μ-loop
-count-column-requires c κs = (given-walks (c .before .before .before .before .before .before .before .before .before .before .before .before .before .before .pre .1) (inside (c .before .before .before .before .before .before .before .before .before .before .before .before .before .before .pre .0) (c .before .before .before .before .before .before .before .loop-test .taken)) (c .before .before .before .before .before .before .before .before .loop .inv .m-long), c .before .before .before .before .before .before .before .before .loop .inv .fresh, part-few (c .before .before .before .before .before .before .before .before .before .before .before .before .before .before .pre .0) (c .before .before .before .before .before .before .before .loop-test .taken) (c .before .before .before .before .before .wide .ensures .0) (c .before .before .before .wide2 .ensures .0), omega (arith, c .before .before .before .before .before .before .before .before .loop .inv .wide, inside (c .before .before .before .before .before .before .before .before .before .before .before .before .before .before .pre .0) (c .before .before .before .before .before .before .before .loop-test .taken)))
+count-column-requires c κs = (given-walks (c .before .before .before .before .before .before .before .before .before .before .before .before .before .before .pre .1) (inside (c .before .before .before .before .before .before .before .before .before .before .before .before .before .before .pre .0) (c .before .before .before .before .before .before .before .loop-test .taken)) (c .before .before .before .before .before .before .before .before .loop .inv .m-long), c .before .before .before .before .before .before .before .before .loop .inv .fresh, part-few (c .before .before .before .before .before .before .before .before .before .before .before .before .before .before .pre .0) (c .before .before .before .before .before .before .before .loop-test .taken) (c .before .before .before .before .before .wide .ensures .0) (c .before .before .before .wide2 .ensures .0), omega (arith, c .before .before .before .before .before .before .before .before .loop .inv .wide, inside (c .before .before .before .before .before .before .before .before .before .before .before .before .before .before .pre .0) (c .before .before .before .before .before .before .before .loop-test .taken)), part-rises (c .before .before .before .before .before .before .before .before .before .before .before .before .before .before .pre .0) (c .before .before .before .before .before .before .before .loop-test .taken) (c .before .before .before .before .before .wide .ensures .0) (c .before .before .before .wide2 .ensures .0))
 
 add-total : tie.Need-add-total Inv-loop μ-loop
 add-total c = omega (arith, c .before .before .before .before .before .before .before .before .before .before .before .before .before .loop .inv .few, tot-small (c .before .before .before .before .before .before .before .before .before .before .before .before .before .before .before .before .before .before .before .pre .1) (c .before .before .before .before .before .before .before .before .before .before .before .before .before .loop .inv) (inside (c .before .before .before .before .before .before .before .before .before .before .before .before .before .before .before .before .before .before .before .pre .0) (c .before .before .before .before .before .before .before .before .before .before .before .before .loop-test .taken)) (part-is (c .before .before .before .before .before .before .before .before .before .before .before .before .before .before .before .before .before .before .before .pre .0) (c .before .before .before .before .before .before .before .before .before .before .before .before .loop-test .taken) (c .before .before .before .before .before .before .before .before .before .before .wide .ensures .0) (c .before .before .before .before .before .before .before .before .wide2 .ensures .0)) (c .before .before .before .before .count-column .kept .1 .1 .1 .0) (c .before .before .before .before .count-column .ensures))

@@ -1,5 +1,5 @@
 -- `lower_column` meets its contract. Assumes nothing.
-use Rattle.cs_tree.proofs.Falling.{Backing, backing-start, backing-row, backing-some, backing-place, backing-turn, backing-done}
+use Rattle.cs_tree.proofs.Falling.{Putting, putting-start, putting-row, putting-some, putting-place, putting-turn, putting-done}
 use lib.ListN.{length, length-set}
 use mathlib.Core.Path.{_≡_, _∙_, refl}
 use native.Mathlib.Omega.{arith}
@@ -9,13 +9,13 @@ use Rattle.cs_pattern.proofs.lower.lower_column.Statement.{statement}
 use Rattle.cs_pattern.proofs.lower.lower_column.Tie as tie
 
 abbrev Inv-loop : tie.InvT-loop
-Inv-loop k rows next₀ li₀ q₀ next li q = (q ≤ length rows) × Backing k rows next₀ li₀ next li q × (length next ≡ length next₀) × (length li ≡ length li₀)
+Inv-loop k rows next₀ li₀ q₀ next li q = (q ≤ length rows) × Putting k rows next₀ li₀ next li q × (length next ≡ length next₀) × (length li ≡ length li₀)
 
 abbrev μ-loop : tie.MeasureT-loop
 μ-loop k rows next₀ li₀ q₀ next li q = q
 
 loop-holds : tie.Need-loop-holds Inv-loop μ-loop
-loop-holds c = (omega arith, backing-start, refl, refl)
+loop-holds c = (omega arith, putting-start, refl, refl)
 
 sub-q : tie.Need-sub-q Inv-loop μ-loop
 sub-q c = search needs
@@ -33,10 +33,10 @@ mul-t : tie.Need-mul-t Inv-loop μ-loop
 mul-t c = search needs
 
 slice-read-t : tie.Need-slice-read-t Inv-loop μ-loop
-slice-read-t c = backing-row (c .before .before .before .before .loop .inv .1) (c .before .before .before .loop-test .taken) (c .before .before .before .before .loop .inv .0) (c .before .wide .ensures .0) (c .before .before .before .before .before .before .before .before .pre)
+slice-read-t c = putting-row (c .before .before .before .before .loop .inv .1) (c .before .before .before .loop-test .taken) (c .before .before .before .before .loop .inv .0) (c .before .wide .ensures .0) (c .before .before .before .before .before .before .before .before .pre)
 
 sub-t : tie.Need-sub-t Inv-loop μ-loop
-sub-t c = backing-some (c .before .before .before .before .loop .inv .1) (c .before .before .before .loop-test .taken) (c .before .before .before .before .loop .inv .0) (c .before .wide .ensures .0) (c .before .before .before .before .before .before .before .before .pre)
+sub-t c = putting-some (c .before .before .before .before .loop .inv .1) (c .before .before .before .loop-test .taken) (c .before .before .before .before .loop .inv .0) (c .before .wide .ensures .0) (c .before .before .before .before .before .before .before .before .pre)
 
 wide-requires-2 : tie.Need-wide-requires-2 Inv-loop μ-loop
 wide-requires-2 c κs = search needs
@@ -45,19 +45,19 @@ mul-li : tie.Need-mul-li Inv-loop μ-loop
 mul-li c = search needs
 
 slice-write-li : tie.Need-slice-write-li Inv-loop μ-loop
-slice-write-li c = omega (arith, c .wide2 .ensures .0, backing-place (c .before .before .before .before .before .loop .inv .1) (c .before .before .before .before .loop-test .taken) (c .before .before .before .before .before .loop .inv .0) (c .before .before .wide .ensures .0) (c .before .before .before .before .before .before .before .before .before .pre))
+slice-write-li c = omega (arith, c .wide2 .ensures .0, putting-place (c .before .before .before .before .before .loop .inv .1) (c .before .before .before .before .loop-test .taken) (c .before .before .before .before .before .loop .inv .0) (c .before .before .wide .ensures .0) (c .before .before .before .before .before .before .before .before .before .pre))
 
 mul-next : tie.Need-mul-next Inv-loop μ-loop
 mul-next c = search needs
 
 slice-write-next : tie.Need-slice-write-next Inv-loop μ-loop
-slice-write-next c = backing-row (c .before .before .before .before .before .loop .inv .1) (c .before .before .before .before .loop-test .taken) (c .before .before .before .before .before .loop .inv .0) (c .before .before .wide .ensures .0) (c .before .before .before .before .before .before .before .before .before .pre)
+slice-write-next c = putting-row (c .before .before .before .before .before .loop .inv .1) (c .before .before .before .before .loop-test .taken) (c .before .before .before .before .before .loop .inv .0) (c .before .before .wide .ensures .0) (c .before .before .before .before .before .before .before .before .before .pre)
 
 loop-less : tie.Need-loop-less Inv-loop μ-loop
 loop-less c = search needs
 
 loop-again : tie.Need-loop-again Inv-loop μ-loop
-loop-again c = (omega (arith, c .before .before .before .before .before .loop .inv .0), backing-turn (c .before .before .before .before .before .loop .inv .1) (c .before .before .before .before .loop-test .taken) (c .before .before .before .before .before .loop .inv .0) (c .before .before .wide .ensures .0) (c .wide2 .ensures .0), simp length-set (c .before .before .before .before .before .loop .inv .2), simp length-set (c .before .before .before .before .before .loop .inv .3))
+loop-again c = (omega (arith, c .before .before .before .before .before .loop .inv .0), putting-turn (c .before .before .before .before .before .loop .inv .1) (c .before .before .before .before .loop-test .taken) (c .before .before .before .before .before .loop .inv .0) (c .before .before .wide .ensures .0) (c .wide2 .ensures .0), simp length-set (c .before .before .before .before .before .loop .inv .2), simp length-set (c .before .before .before .before .before .loop .inv .3))
 
 same-length : tie.Need-same-length Inv-loop μ-loop
 same-length c = search needs
@@ -66,7 +66,7 @@ same-length-2 : tie.Need-same-length-2 Inv-loop μ-loop
 same-length-2 c = search needs
 
 returns : tie.Need-returns Inv-loop μ-loop
-returns c = backing-done (c .before .loop .inv .1) (omega (arith, c .loop-test .left))
+returns c = putting-done (c .before .loop .inv .1) (omega (arith, c .loop-test .left))
 
 pub lower-column-spec : {M : Type 1} → statement M
 lower-column-spec =

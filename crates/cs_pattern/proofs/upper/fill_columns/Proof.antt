@@ -5,9 +5,8 @@ use Rattle.cs_pattern.proofs.Falls.{falls-within, falls-in, falls-point
 use lib.ListN.{length-set}
 use Rattle.cs_pattern.specs.Columns.{columns}
 use Rattle.cs_matrix.specs.Matrix.{pattern}
-use mathlib.Core.Path.{_∙_, sym, refl}
+use mathlib.Core.Path.{_∙_, sym}
 use native.Mathlib.Omega.{arith}
-use Prim.Native.Nat.{_-_}
 use borrow.Author.Needs.{needs}
 use Rattle.cs_pattern.proofs.upper.fill_columns.Statement.{statement}
 use Rattle.cs_pattern.proofs.upper.fill_columns.Tie as tie
