@@ -1,5 +1,5 @@
 -- The columns of a valid pattern: how many, each the part between its two pointers. Assumes nothing.
-use mathlib.Core.Path.{_≡_, refl, sym, ap, _∙_}
+use mathlib.Core.Path.{_≡_, sym, _∙_}
 use mathlib.Core.Bool.{true}
 use mathlib.Core.List.{List, []}
 use Prim.Native.Nat.{ℕ, _+_, _≤_, _<_}
@@ -12,9 +12,7 @@ use Rattle.lists.proofs.Tables.{length-table, getD-table}
 use Rattle.cs_matrix.specs.Matrix.{Pattern, pattern, column, ValidPattern}
 use Rattle.cs_matrix.proofs.Pointers.{Between, between, column-is}
 use Rattle.cs_tree.specs.Tree.{root, tree}
-use Rattle.cs_tree.specs.Pattern.{upper}
-use Rattle.cs_tree.specs.Steps.{Given, Pointed}
-use Rattle.cs_tree.proofs.Filling.{upper-long}
+use Rattle.cs_tree.specs.Steps.{Given}
 use Rattle.cs_pattern.specs.Columns.{columns}
 
 pub length-columns : (a : Pattern) → length (columns a) ≡ a .ncols
@@ -51,9 +49,6 @@ module _ {n : ℕ} {p i : List ℕ} (v : ValidPattern (pattern n n p i)) where
 
   pub given : {par : List ℕ} → par ≡ tree C → Given C par
   given e = record { small = omega (arith, columns-long, v .cols); par-is = e }
-
-  pub pointed-in : {par up : List ℕ} {k : ℕ} → Given C par → Pointed (upper C) up → k < n → k + 1 < length up
-  pointed-in g p h = omega (arith, p .long, upper-long g, columns-long)
 
   module _ {k a e : ℕ} (h : k < n) (f : a ≡ getD p k 0) (g : e ≡ getD p (k + 1) 0) where
     pub here : Between p (length i) k a e

@@ -3,15 +3,14 @@ use mathlib.Core.Path.{_≡_, refl, sym, ap, _∙_}
 use mathlib.Core.List.{List, [], _∷_, _++_, flatten}
 use Prim.Native.Nat.{ℕ, _+_, _≤_, _<_, min}
 use native.Mathlib.Omega.{arith}
-use lib.ListN.{length, getD, take, drop}
-use lib.Seq.{take-append-add}
-use Rattle.lists.specs.Calls.{onto, cleared}
+use lib.ListN.{length, getD, take}
+use Rattle.lists.specs.Calls.{cleared}
 use Rattle.lists.specs.Parts.{part, placed}
 use Rattle.lists.specs.Sums.{counted}
 use Rattle.lists.specs.Keeping.{Kept}
 use Rattle.lists.proofs.Clearing.{length-cleared, cleared-front}
 use Rattle.lists.proofs.Laying.{placed-front, part-long, part-onto}
-use Rattle.lists.proofs.Parts.{getD-part, left-at}
+use Rattle.lists.proofs.Parts.{getD-part}
 use Rattle.cs_matrix.specs.Matrix.{pattern, ValidPattern}
 use Rattle.cs_tree.specs.Pattern.{upper, lower, starts, entries}
 use Rattle.lists.specs.Keeping.{Zeros}
@@ -22,7 +21,7 @@ use Rattle.cs_tree.proofs.Falling.{upper-once, upper-below}
 use Rattle.cs_tree.proofs.Filling.{upper-long}
 use Rattle.cs_tree.proofs.Growing.{tree-long}
 use Rattle.lists.proofs.Keeping.{kept-then, kept-cleared, kept-placed}
-use Rattle.cs_tree.proofs.Laid.{length-lengths, start-at, length-laid}
+use Rattle.cs_tree.proofs.Laid.{start-at, length-laid}
 use Rattle.cs_tree.proofs.Lowering.{counted-are, rows-are}
 use Rattle.cs_pattern.specs.Columns.{columns}
 use Rattle.cs_pattern.specs.Steps.{Outlined}

@@ -6,7 +6,7 @@ use Prim.Native.Nat.{ℕ, _+_, _-_, _≤_}
 use lib.Dec.{eqb}
 use lib.Ieee.{Float}
 use lib.ListN.{length}
-use Rattle.lists.specs.Calls.{lowest, cleared, Scratch, scratch, narrow, wiped, worked, Lent, lent, leaves}
+use Rattle.lists.specs.Calls.{lowest, Scratch, scratch, narrow, wiped, worked, Lent, lent, leaves}
 use Rattle.lists.specs.Keeping.{Kept}
 use Rattle.lists.proofs.Calls.{first, then, early}
 use Rattle.cs_matrix.specs.Matrix.{Pattern, pattern, needed, ValidPattern, judgedSquare}

@@ -1,24 +1,22 @@
 -- What the slices of a written analysis hold: the columns of U and of L again, with all that is promised of them. Assumes nothing.
 use mathlib.Core.Path.{_≡_, refl, sym, ap, _∙_}
-use mathlib.Core.Bool.{true}
-use mathlib.Core.List.{List, [], _∷_, _++_, map, flatten, List·Memᴰ, List·Memᴰ·head, List·Memᴰ·tail}
-use Prim.Native.Nat.{ℕ, zero, suc, _+_, _-_, _≤_, _<_}
+use mathlib.Core.List.{List, [], _∷_, map, flatten, List·Memᴰ}
+use Prim.Native.Nat.{ℕ, _+_, _-_, _≤_, _<_}
 use native.Mathlib.Omega.{arith}
-use lib.ListN.{length, getD, take}
+use lib.ListN.{length, getD}
 use lib.Seq.{take-all}
 use Rattle.lists.specs.Calls.{onto}
-use Rattle.lists.specs.Order.{rises, Rising}
+use Rattle.lists.specs.Order.{Rising}
 use Rattle.lists.proofs.Laying.{take-onto, onto-whole}
 use Rattle.lists.proofs.Ordering.{rising-rises}
 use Rattle.lists.proofs.Parts.{getD-onto-front}
 use Rattle.lists.proofs.Tables.{is-table}
-use Rattle.cs_matrix.specs.Matrix.{Pattern, pattern, column, Pointers, ValidPattern}
-use Rattle.cs_tree.specs.Tree.{root, tree}
-use Rattle.cs_tree.specs.Pattern.{Analysis, analysis, analysed, upper, lower, starts, entries}
-use Rattle.cs_tree.specs.Least.{sorted, Promised}
+use Rattle.cs_matrix.specs.Matrix.{pattern, column, Pointers, ValidPattern}
+use Rattle.cs_tree.specs.Tree.{tree}
+use Rattle.cs_tree.specs.Pattern.{Analysis, analysed, upper, lower, starts, entries}
+use Rattle.cs_tree.specs.Least.{sorted}
 use Rattle.cs_tree.proofs.Count.{length-starts}
-use Rattle.cs_tree.proofs.Filling.{upper-long}
-use Rattle.cs_tree.proofs.Laid.{length-laid, start-at, entries-more, entries-part}
+use Rattle.cs_tree.proofs.Laid.{length-laid, start-at, entries-more}
 use Rattle.cs_tree.proofs.Laws.{fill-upper}
 use Rattle.cs_tree.proofs.Lowering.{laid-below}
 use Rattle.cs_tree.proofs.Promises.{promised, filled, length-lower}
@@ -27,7 +25,7 @@ use Rattle.cs_tree.proofs.Sorting.{sorted-in, length-sorted, sorted-at, length-
 use Rattle.cs_pattern.specs.Analyse.{written}
 use Rattle.cs_pattern.specs.Columns.{columns}
 use Rattle.cs_pattern.specs.Promise.{withColumns, Analysed}
-use Rattle.cs_pattern.proofs.Columns.{columns-fit, columns-long, given, length-columns, column-at}
+use Rattle.cs_pattern.proofs.Columns.{columns-fit, columns-long, column-at}
 use Rattle.cs_pattern.proofs.Filled.{tree-size, upper-size}
 
 -- the columns that were written are those that are held

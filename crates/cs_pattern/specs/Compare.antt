@@ -1,8 +1,8 @@
 -- The comparison of a lent analysis with the one worked out afresh: number 8 of document 01. Assumes nothing.
-use mathlib.Core.Bool.{Bool, true, false, not, _&&_, _||_}
-use mathlib.Core.List.{List, [], _∷_, _++_}
+use mathlib.Core.Bool.{Bool, not, _&&_, _||_}
+use mathlib.Core.List.{[], _∷_, _++_}
 use Prim.Native.Nat.{ℕ}
-use lib.Dec.{ltb, eqb}
+use lib.Dec.{ltb}
 use lib.ListN.{length}
 use Rattle.lists.specs.Calls.{lowest, Scratch, narrow}
 use Rattle.lists.specs.Order.{startsWith}

@@ -1,7 +1,7 @@
 -- What is promised of a written analysis: U and L are the patterns that its slices hold, column by column. Assumes nothing.
 use mathlib.Core.Path.{_≡_}
 use mathlib.Core.List.{List, map, flatten}
-use Prim.Native.Nat.{ℕ, _≤_}
+use Prim.Native.Nat.{ℕ}
 use lib.ListN.{length, getD, take}
 use Rattle.cs_matrix.specs.Matrix.{Pattern, pattern, ValidPattern}
 use Rattle.cs_tree.specs.Pattern.{Analysis, starts, entries}

@@ -1,5 +1,4 @@
 // A column of U put into L: its number goes before the later entries of each of its rows.
-ghost use mathlib.Core.Path.{_≡_};
 ghost use Rattle.cs_tree.specs.Falling.{Last, Left};
 use lists::numbers::wide;
 

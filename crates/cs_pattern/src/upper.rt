@@ -5,7 +5,7 @@ ghost use lib.ListN.{length};
 ghost use Rattle.lists.specs.Calls.{onto};
 ghost use Rattle.cs_matrix.specs.Matrix.{pattern, ValidPattern};
 ghost use Rattle.cs_tree.specs.Falling.{Ample};
-ghost use Rattle.cs_tree.specs.Pattern.{upper, lower, starts, entries};
+ghost use Rattle.cs_tree.specs.Pattern.{upper, lower, starts};
 ghost use Rattle.lists.specs.Keeping.{Zeros};
 ghost use Rattle.cs_tree.specs.Steps.{Given};
 ghost use Rattle.cs_pattern.specs.Columns.{columns};

@@ -1,8 +1,8 @@
 -- The forward solve with a sparse right side: document 01, "Sparse forward". Assumes nothing.
-use mathlib.Core.Bool.{Bool, not, _||_}
+use mathlib.Core.Bool.{Bool, _||_}
 use mathlib.Core.List.{List, [], _∷_, _++_, map}
 use Prim.Native.Nat.{ℕ}
-use lib.Dec.{ltb, eqb}
+use lib.Dec.{ltb}
 use lib.Ieee.{Float, nan}
 use lib.ListN.{length, getD, set, replicate}
 use Rattle.lists.specs.Calls.{lowest, both, disagree, narrow, onto, none, Lent}

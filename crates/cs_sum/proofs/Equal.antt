@@ -1,6 +1,6 @@
 -- Columns that have the same rows: how that is told, and their sum, which has those rows. Assumes nothing.
 use mathlib.Core.Path.{_≡_, refl, sym, ap, _∙_}
-use mathlib.Core.Bool.{Bool, true, false}
+use mathlib.Core.Bool.{true, false}
 use mathlib.Core.List.{List, map, append-nil}
 use mathlib.Core.Logic.{inl}
 use Prim.Native.Nat.{ℕ, zero, suc, _+_, _-_, _≤_, _<_}
@@ -9,7 +9,7 @@ use native.Mathlib.Omega.{arith}
 use lib.Dec.{eqb}
 use lib.Ieee.{Float, nan, binary64, add, mul}
 use lib.ListN.{length, getD, set, take, length-map, List·getD-map}
-use lib.Seq.{ext-getD, take-suc, take-all, length-take-le}
+use lib.Seq.{take-suc, take-all, length-take-le}
 use borrow.Author.Tests.{eqb-true, eq-eqb, ne-eqb}
 use Rattle.lists.specs.Calls.{onto}
 use Rattle.lists.specs.Choices.{chosen}

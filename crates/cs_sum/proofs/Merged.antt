@@ -1,20 +1,19 @@
 -- The loops of `count_rows` and `merge`, on plain lists. Assumes nothing.
 use mathlib.Core.Path.{_≡_, refl, sym, ap, _∙_}
-use mathlib.Core.Bool.{Bool, true, false}
+use mathlib.Core.Bool.{true, false}
 use mathlib.Core.List.{List, [], _∷_, _++_, map}
 use mathlib.Core.Logic.{_⊎_}
-use Prim.Native.Nat.{ℕ, zero, suc, _+_, _-_, _≤_, _<_}
+use Prim.Native.Nat.{ℕ, _+_, _-_, _≤_, _<_}
 use native.Mathlib.Omega.{arith}
 use lib.Ieee.{Float, nan, binary64, add, mul}
 use lib.ListN.{length, getD, set, length-append, length-map}
-use borrow.Author.Tests.{eq-eqb, ne-eqb}
 use Rattle.lists.specs.Choices.{chosen}
 use Rattle.lists.specs.Order.{rises, lists}
 use Rattle.lists.proofs.Chosen.{map-more}
 use Rattle.lists.proofs.Ordering.{rises-apart}
 use Rattle.cs_columns.specs.Columns.{either, laid}
 use Rattle.cs_columns.proofs.Filling.{laid-none, laid-more, length-laid}
-use Rattle.cs_columns.proofs.Merging.{end, row-there, Merging, merging-start, merging-ends, merging-count, merging-room, first-in, first-lists, first-only, merging-first, second-in, second-only, second-lists, merging-second, both-first, both-second, both-list, both-list-too, merging-both}
+use Rattle.cs_columns.proofs.Merging.{end, row-there, Merging, merging-start, merging-ends, merging-count, merging-room, first-in, first-only, merging-first, second-in, second-only, second-lists, merging-second, both-first, both-second, both-list, both-list-too, merging-both}
 use Rattle.cs_matrix.specs.Matrix.{valueAt}
 use Rattle.cs_matrix.proofs.Values.{value-there}
 use Rattle.cs_sum.specs.Steps.{Risen, Column}

@@ -8,7 +8,7 @@ use lib.Ieee.{Float}
 use lib.ListN.{length, getD}
 use Rattle.lists.specs.Choices.{chosen}
 use Rattle.lists.specs.Order.{rises, startsWith}
-use Rattle.cs_matrix.specs.Matrix.{Matrix, Stored, Valid}
+use Rattle.cs_matrix.specs.Matrix.{Matrix, Stored}
 use Rattle.cs_columns.specs.Columns.{either, joined, Operands}
 use Rattle.cs_sum.specs.Sum.{rowOf}
 

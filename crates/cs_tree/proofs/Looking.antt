@@ -68,9 +68,6 @@ module _ {n t : ℕ} {up ui : List ℕ} (w : Whole n t up ui) {k : ℕ} (h : k <
   in-us : k < length (w .us)
   in-us = rw (w .count) h
 
-  pub seen-up : k + 1 < length up
-  seen-up = omega (arith, w .pointed .long, in-us)
-
   module _ {b f : ℕ} (x : b ≡ getD up k 0) (y : f ≡ getD up (k + 1) 0) where
     room : entries (w .us) ≤ length ui
     room = omega (arith, w .size, w .room)

@@ -6,16 +6,14 @@ use Prim.Native.Nat.{ℕ, _+_, _-_, _≤_, _<_}
 use native.Mathlib.Omega.{arith}
 use lib.ListN.{length, getD, set, take}
 use lib.Seq.{set-getD, take-all}
-use Rattle.lists.specs.Calls.{onto}
 use Rattle.lists.specs.Keys.{byKey}
 use Rattle.lists.specs.Parts.{part}
-use Rattle.lists.specs.Keeping.{Kept}
 use Rattle.lists.proofs.Keys.{keys-whole}
 use Rattle.lists.proofs.Placing.{next-holds}
-use Rattle.lists.proofs.Scattering.{Scattering, scattering-start, scattering-turn, scattering-done, r-in-w, at-in, at-in-out}
+use Rattle.lists.proofs.Scattering.{Scattering, scattering-start, scattering-turn, at-in, at-in-out}
 use Rattle.cs_tree.specs.Pattern.{entries}
 use Rattle.cs_tree.specs.Steps.{numbers, Spread, Put, Spreads}
-use Rattle.cs_tree.proofs.Between.{between-start, between-end, between-size, between-order, between-last, between-long, between-keyed, between-numbered}
+use Rattle.cs_tree.proofs.Between.{between-start, between-end, between-size, between-last, between-long, between-keyed, between-numbered}
 use Rattle.cs_tree.proofs.Laid.{length-laid}
 
 -- ---- one column: `lower_column`
@@ -33,12 +31,6 @@ module _ {k : ℕ} {rows next₀ li₀ next li : List ℕ} {q : ℕ} (v : Going 
 
     row : getD (s .keys) (s .at + q) 0 ≡ j
     row = s .keyed q h ∙ sym e
-
-    pub going-row : j < length next
-    going-row = rw (← row) (r-in-w (v s) inside)
-
-    pub going-few : getD next j 0 < 4194304
-    going-few = omega (arith, (rw row at (at-in-out (v s) inside)), s .few)
 
     pub going-place : getD next j 0 < length li
     going-place = rw row at (at-in (v s) inside)
@@ -79,9 +71,6 @@ module _ {n : ℕ} {up ui next₀ li₀ : List ℕ} {k : ℕ} (s : Spreads n up 
   k-in : k < length (s .us)
   k-in = rw (s .count) h
 
-  pub spreads-up : k + 1 < length up
-  spreads-up = omega (arith, s .pointed .long, k-in)
-
   module _ {b f : ℕ} (x : b ≡ getD up k 0) (y : f ≡ getD up (k + 1) 0) where
     start-is : b ≡ entries (take k (s .us))
     start-is = between-start (s .pointed) k-in x y
@@ -92,14 +81,8 @@ module _ {n : ℕ} {up ui next₀ li₀ : List ℕ} {k : ℕ} (s : Spreads n up 
     size : f ≡ b + length (getD (s .us) k [])
     size = between-size (s .pointed) k-in x y
 
-    pub spreads-order : b ≤ f
-    spreads-order = between-order (s .pointed) k-in x y
-
     last : f ≤ entries (s .us)
     last = between-last (s .pointed) k-in x y
-
-    pub spreads-inside : f ≤ length ui
-    spreads-inside = omega (arith, last, s .room)
 
     rows-long : length (part b f ui) ≡ f - b
     rows-long = between-long (s .pointed) k-in x y ui (s .room) (s .laid)
@@ -131,9 +114,6 @@ columns-turn {ui = ui} {k = k} {b = b} {f = f} v h x y w s =
 module _ {n : ℕ} {up ui next₀ li₀ next li : List ℕ} {k : ℕ} (v : Columns n up ui next₀ li₀ next li k) (a : k ≤ n) (h : n ≤ k) where
   whole : (s : Spreads n up ui next₀ li₀) → length (flatten (s .us)) ≤ entries (take k (s .us))
   whole s = let e : take k (s .us) ≡ s .us = take-all k (s .us) (omega (arith, s .count)) in rw e (omega (arith, length-laid (s .us)))
-
-  pub columns-done : (s : Spreads n up ui next₀ li₀) → (li ≡ onto li₀ (byKey n (flatten (s .us)) (numbers 0 (s .us)))) × Kept 0 n next₀ next
-  columns-done s = (scattering-done (v s) (whole s), record { long = v s .w-same; rest = v s .w-rest })
 
 -- a column's entries stand among all of U's
 pub column-among : {n : ℕ} {up ui next₀ li₀ next li : List ℕ} {k b f : ℕ} (s : Spreads n up ui next₀ li₀) (h : k < n) (x : b ≡ getD up k 0) (y : f ≡ getD up (k + 1) 0) (v : Columns n up ui next₀ li₀ next li k)

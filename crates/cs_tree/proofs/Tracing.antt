@@ -6,7 +6,7 @@ use mathlib.Core.List.{List, [], _∷_, _++_, append-nil, append-assoc}
 use Prim.Native.Nat.{ℕ, zero, suc, _+_, _-_, _≤_, _<_}
 use native.Mathlib.Omega.{arith}
 use lib.ListN.{length, getD, set, take, drop, length-set, length-append, take-append-drop}
-use lib.Seq.{getD-set-same, getD-set-other, drop-set-lt, drop-length, drop-at, length-take-le, take-append-le}
+use lib.Seq.{getD-set-same, getD-set-other, drop-set-lt, drop-at, length-take-le, take-append-le}
 use borrow.Author.Tests.{ne-eqb}
 use Rattle.lists.specs.Order.{lists, rises}
 use Rattle.lists.specs.Parts.{part, placed}
@@ -247,11 +247,3 @@ module _ {s k : ℕ} {par rows mark₀ mark out₀ out : List ℕ} {end top q : 
       let l = listing-past (v .is) r h in
       let d = listing-done l (omega arith) in
       record { size = omega (arith, d .0, v .rest); back = v .back ∙ ap (λ (o : List ℕ). o ++ drop end out₀) (listing-all l (omega arith)); marks = d .1 }
-
--- where it fills a slice
-pub reached-whole : {s k : ℕ} {par rows old mark out : List ℕ} {low : ℕ} → length old ≡ length (paths par k rows []) → Reached s k par rows (length old) old low mark out → (out ≡ paths par k rows []) × Marks s mark out
-reached-whole {k = k} {par = par} {rows = rows} {old = old} {out = out} {low = low} e v =
-    let z : low ≡ 0 = omega (arith, v .size) in
-    let b = v .back in
-    let o : out ≡ paths par k rows [] = (rw (z, drop-length old) at b) ∙ append-nil (paths par k rows []) in
-    (o, rw o (v .marks))

@@ -20,7 +20,7 @@ pub record Climbs (k : ℕ) (par anc : List ℕ) : Type 0 where
   pub a-long : k ≤ length anc
   pub above : Above anc
 
--- the indices listed in column k are marked by k + 1, and no mark is above that
+-- the indices listed in a column that k columns came before are marked by k + 1, and no mark is above that
 pub record Marks (k : ℕ) (mark listed : List ℕ) : Type 0 where
   pub at : (i : ℕ) → i < length mark → eqb (getD mark i 0) (k + 1) ≡ lists i listed
   pub most : (i : ℕ) → i < length mark → getD mark i 0 ≤ k + 1

@@ -1,5 +1,4 @@
 // The answer of a job, written: marks, numbers and values as bytes, the lowest first.
-ghost use mathlib.Core.Path.{_≡_};
 
 mod put;
 pub mod write;

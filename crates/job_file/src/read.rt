@@ -1,6 +1,6 @@
 // The job file read: each record judged where it stands, and then laid into the arrays.
 ghost use mathlib.Core.Path.{_≡_};
-ghost use Rattle.job_file.specs.Reading.{Outcome, readFile};
+ghost use Rattle.job_file.specs.Reading.{readFile};
 ghost use Rattle.job_file.specs.Arrays.{arrays, laid, answered, Within};
 ghost use Rattle.job_file.specs.Keeping.{Room};
 use crate::fault::fault;

@@ -11,7 +11,7 @@ use lib.Dec.{eqb}
 use lib.ListN.{length, getD, drop}
 use borrow.Author.Tests.{ne-eqb}
 use Rattle.lists.specs.Folds.{every, tally, turns, falls, along, over}
-use Rattle.lists.proofs.Bools.{and-true, and-none, and-false, not-both}
+use Rattle.lists.proofs.Bools.{and-true, and-none, and-false}
 use Rattle.lists.proofs.Parts.{left-at, left-none}
 
 -- ---- every
@@ -26,13 +26,6 @@ every-at zero f h k l = absurd (omega arith)
 every-at (suc n) f h k l =
     let p = and-true (every n f) (f n) h in
     ⊎-elim (λ (e : k ≡ n). rw e (p .1)) (λ (m : k < n). every-at n f (p .0) k m) (eq-or-lt-of-le (omega arith))
-
-every-not : (n : ℕ) (f : ℕ → Bool) (k : ℕ) → k < n → f k ≡ false → every n f ≡ false
-every-not n f k l e = go (every n f) refl
-  where
-    go : (b : Bool) → every n f ≡ b → b ≡ false
-    go true h = absurd (not-both (f k) (every-at n f h k l) e)
-    go false h = refl
 
 -- ---- tally
 pub tally-none : (f : ℕ → Bool) → tally 0 f ≡ 0

@@ -1,6 +1,5 @@
 -- `count_column` meets its contract. Assumes nothing.
 use Rattle.cs_tree.proofs.Bumping.{Rowing, rowing-start, rowing-turn, rowing-done, rowing-past}
-use native.Mathlib.Omega.{arith}
 use lib.ListN.{length}
 use Prim.Native.Nat.{_-_, _≤_}
 use borrow.Author.Needs.{needs}

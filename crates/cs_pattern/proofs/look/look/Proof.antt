@@ -2,7 +2,6 @@
 use borrow.Author.Tests.{not-true}
 use native.Mathlib.Omega.{arith}
 use borrow.Author.Tests.{not-false}
-use Rattle.lists.proofs.Laying.{part-long}
 use Rattle.lists.proofs.Keeping.{kept-all}
 use Rattle.cs_pattern.proofs.Finding.{unseen, lp-long, lp-first, li-long, look-asks, look-unseen, look-told}
 use borrow.Author.Needs.{needs}

@@ -1,7 +1,7 @@
 -- `lower_column` meets its contract. Assumes nothing.
 use Rattle.cs_tree.proofs.Falling.{Putting, putting-start, putting-row, putting-some, putting-place, putting-turn, putting-done}
 use lib.ListN.{length, length-set}
-use mathlib.Core.Path.{_≡_, _∙_, refl}
+use mathlib.Core.Path.{_≡_, refl}
 use native.Mathlib.Omega.{arith}
 use Prim.Native.Nat.{_-_, _≤_}
 use borrow.Author.Needs.{needs}

@@ -3,8 +3,7 @@ use Rattle.lists.proofs.Matching.{sameAt, same-told, starts-short}
 use Rattle.lists.proofs.Folds.{Telling, telling-start, telling-holds, telling-fails, telling-done}
 use borrow.Author.Tests.{eq-eqb, ne-eqb}
 use mathlib.Core.Logic.{⊎-elim}
-use mathlib.Core.Path.{_≡_, _∙_, refl}
-use native.Mathlib.Omega.{arith}
+use mathlib.Core.Path.{_∙_}
 use lib.ListN.{length}
 use Prim.Native.Nat.{_-_, _≤_}
 use borrow.Author.Needs.{needs}
