@@ -1,4 +1,5 @@
--- Numbers 1 to 6 of a pattern that has to be square: each way out of src/square.rt, and what is known where none applies. Assumes nothing.
+-- Numbers 1 to 6 of a pattern or matrix that has to be square: each way out of src/square.rt, and what is known where none applies.
+-- Assumes nothing.
 use mathlib.Core.Path.{_≡_, refl, sym, ap, _∙_}
 use mathlib.Core.Bool.{Bool, true, false, not, cond}
 use mathlib.Core.List.{List, [], _∷_, _++_}

@@ -14,14 +14,13 @@ ghost use Rattle.cs_tree.specs.Steps.{Whole};
 ghost use Rattle.cs_pattern.specs.Columns.{columns};
 ghost use Rattle.lists.specs.Order.{startsWith};
 ghost use Rattle.cs_pattern.specs.Compare.{same as sameAs, tight, number};
+use crate::count::MOST;
 use crate::fill::outline;
 use crate::look::look;
 use crate::quick::read_upper;
 use cs_matrix::square::prepare;
 use lists::clear::clear_scratch;
 use lists::numbers::wide;
-
-const MOST: usize = 4194304;
 
 // Numbers 7 and 8, or 0, where U is known to be held, with t entries.
 fn judge_lower(

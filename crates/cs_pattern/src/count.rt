@@ -17,7 +17,8 @@ ghost use Rattle.cs_pattern.specs.Columns.{columns};
 use lists::numbers::wide;
 use std::num::wrapping_add_u32;
 
-const MOST: usize = 4194304;
+// The entries that a matrix may have.
+pub const MOST: usize = 4194304;
 
 // Walks up from a row, marks what was not yet listed and counts it. The answer is how many there are.
 fn count_walk(k: u32, row: u32, par: &[u32], mark: &mut [u32], counts: &mut [u32]) -> usize

@@ -15,12 +15,11 @@ ghost use Rattle.lists.specs.Keeping.{Zeros};
 ghost use Rattle.cs_tree.specs.Steps.{Walks, Marks, Given};
 ghost use Rattle.cs_pattern.specs.Columns.{columns};
 ghost use Rattle.cs_pattern.specs.Steps.{Known};
+use crate::count::MOST;
 use crate::tree::elimination_tree;
 use lists::clear::clear;
 use lists::numbers::wide;
 use lists::order::starts_with;
-
-const MOST: usize = 4194304;
 
 // A way up the tree goes no further than c: its parent is past k or listed.
 fn stops(k: u32, c: u32, par: &[u32], mark: &[u32]) -> bool

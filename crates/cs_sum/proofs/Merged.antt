@@ -1,4 +1,4 @@
--- The loops of `count_rows` and `merge`, on plain lists. Assumes nothing.
+-- The loops of `count_rows` and `walk`, on plain lists. Assumes nothing.
 use mathlib.Core.Path.{_≡_, refl, sym, ap, _∙_}
 use mathlib.Core.Bool.{true, false}
 use mathlib.Core.List.{List, [], _∷_, _++_, map}

@@ -1,4 +1,4 @@
--- Pointers as running sums, and L from U: its columns counted, summed up and put. Assumes nothing.
+-- Pointers as running sums, and L from U: its columns counted and summed up. Assumes nothing.
 use mathlib.Core.Path.{_≡_, refl, sym, ap, _∙_}
 use mathlib.Core.Bool.{Bool, true, false, cond}
 use mathlib.Core.List.{List, [], _∷_, _++_, flatten, List·Memᴰ, List·Memᴰ·head, List·Memᴰ·tail}

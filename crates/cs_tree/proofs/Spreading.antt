@@ -1,5 +1,5 @@
--- The loops that put U's entries by their rows, which lays out L: one column, and column by column; and the same walk where L is
--- only looked at. Assumes nothing.
+-- Where U's entries stand by their rows, which lays out L: one column, and column by column, with L looked at place by place.
+-- Assumes nothing.
 use mathlib.Core.Path.{_≡_, refl, sym, _∙_}
 use mathlib.Core.List.{List, [], flatten}
 use Prim.Native.Nat.{ℕ, _+_, _-_, _≤_, _<_}
