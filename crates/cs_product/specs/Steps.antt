@@ -147,7 +147,7 @@ pub record Dense (a : Matrix) (rows : List ℕ) (vals : List Float) (lo hi start
   pub in-i : start + length (chosen (a .pattern .nrows) (remains (columnOf a rows vals))) ≤ length oi
   pub in-v : start + length (chosen (a .pattern .nrows) (remains (columnOf a rows vals))) ≤ length ov
 
--- and scratch for their columns
+-- ---- two valid matrices, and scratch for their columns
 pub record Begun (a b : Matrix) (stamp : ℕ) (mark met : List ℕ) (x : List Float) : Type 0 where
   pub first : Valid a
   pub second : Valid b

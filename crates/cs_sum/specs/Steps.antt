@@ -40,7 +40,7 @@ pub record Places (rows : List ℕ) (av bv : List Float) (oi : List ℕ) (ov : L
   pub i-alike : length oi ≡ length rows
   pub v-alike : length ov ≡ length rows
 
--- and room for their sum
+-- two valid matrices, and room for their sum
 pub record Ready (a b : Matrix) (out : Stored) : Type 0 where
   pub alike : Operands a b
   pub few : length (joined (λ j. chosen (a .pattern .nrows) (rowOf a b j)) (a .pattern .ncols)) ≤ 4194304
