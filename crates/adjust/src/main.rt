@@ -1,4 +1,5 @@
 // The program: a job file on standard input, its answer on standard output. A read that fails ends the input.
+#![tactic(auto)]
 use libc::{STDIN_FILENO, STDOUT_FILENO};
 
 fn main() {

@@ -1,4 +1,5 @@
 // The product of two matrices, after cs_matrix_ops.rs.
+#![tactic(auto)]
 mod accumulate;
 mod columns;
 mod gather;

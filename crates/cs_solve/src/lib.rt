@@ -1,4 +1,5 @@
 // The triangular solves with a dense right side, after cs_matrix_solve.rs.
+#![tactic(auto)]
 pub mod diagonal;
 mod judge;
 pub mod solve;

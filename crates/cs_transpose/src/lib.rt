@@ -1,2 +1,3 @@
 // The transpose of a matrix, after cs_matrix.rs.
+#![tactic(auto)]
 pub mod transpose;

@@ -1,2 +1,3 @@
 // A job's entries assembled and analysed.
+#![tactic(auto)]
 pub mod prepare;

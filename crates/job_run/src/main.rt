@@ -1,4 +1,5 @@
 // The job files that its arguments name, each with its answer in hexadecimal: a file a line.
+#![tactic(auto)]
 ghost use Rattle.std.specs.Prelude.{◌≤◌, length};
 
 use libc::STDOUT_FILENO;

@@ -1,5 +1,5 @@
 -- What is counted does not depend on the order: counts over two lists, either first. Assumes nothing.
-use Rattle.std.proofs.Common.{◌≡◌, ℕ, ◌+◌, ◌%◌, ◌^◌, List, [], ◌∷◌, ◌++◌, get_or, sym, refl, ap, ◌∙◌, ⊎_elim, get_or_set_other}
+use Rattle.std.proofs.Common.{◌≡◌, ℕ, ◌+◌, ◌%◌, ◌^◌, List, [], ◌∷◌, ◌++◌, get_or, sym, refl, ap, ◌∙◌, ⊎_elim, get_or-set_other}
 use lib.Seq.{set_comm}
 use Rattle.lists.specs.Folds.{along}
 use Rattle.lists.specs.Sums.{bumped, counted}
@@ -11,7 +11,7 @@ bumped-swap a b w =
     ⊎_elim
     (λ (e : a ≡ b). rw e)
     (λ (n : a ≡ b → ⊥).
-    rw (get_or_set_other w b a ((get_or w b 0 + 1) % 2 ^ 32) 0 n, get_or_set_other w a b ((get_or w a 0 + 1) % 2 ^ 32) 0 (λ e. n (sym e)))
+    rw (get_or-set_other w b a ((get_or w b 0 + 1) % 2 ^ 32) 0 n, get_or-set_other w a b ((get_or w a 0 + 1) % 2 ^ 32) 0 (λ e. n (sym e)))
     (set_comm w b a ((get_or w b 0 + 1) % 2 ^ 32) ((get_or w a 0 + 1) % 2 ^ 32) (λ e. n (sym e))))
     (eq-or-ne a b)
 

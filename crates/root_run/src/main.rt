@@ -1,5 +1,6 @@
 // Reads bit patterns, eight bytes each and little-endian, until the input ends, and writes the bits
 // of each root in the same way. Fewer than eight bytes at the end are not answered.
+#![tactic(auto)]
 ghost use Rattle.std.specs.Prelude.{◌≡◌, length};
 ghost use Rattle.root.specs.Root.{root_bits};
 ghost use Rattle.little.specs.Little.{little, bytes};

@@ -1,5 +1,6 @@
 // Walks columns by `next_entry`, which makes a walker at each step. For each walk a line with the number of its parts, then a
 // line for each call: the number, the row and the value's bits or `end`, the position behind, and how many entries are left.
+#![tactic(auto)]
 use cs_walk::column_entries::{Entry, check_parts, next_entry};
 use float_bits::bits_of;
 use libc::STDOUT_FILENO;

@@ -1,0 +1,6 @@
+-- `clear_scratch`: each slice by the call that clears it. Assumes nothing.
+use Rattle.lists.proofs.Calls.{wiped_each}
+use Rattle.lists.proofs.clear.clear_scratch.Goals as goal
+
+pub returns : goal.returns
+returns c = wiped_each _ _ c.clear.ensures c.clear-2.ensures c.clear-3.ensures c.clear_values.ensures
