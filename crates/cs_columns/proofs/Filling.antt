@@ -7,7 +7,7 @@ use native.Mathlib.Nat.{eq-or-lt_of_le}
 use native.Mathlib.Omega.{arith}
 use lib.Ieee.{Float}
 use lib.ListN.{length, get_or, set, take, drop, length-append, length-set, take-append-drop}
-use lib.Seq.{length-take-le, get_or-set_same, get_or_set_other, drop-drop}
+use lib.Seq.{length-take-le, get_or-set_same, get_or-set_other, drop-drop}
 use Rattle.lists.specs.Calls.{onto}
 use Rattle.lists.specs.Parts.{placed}
 use Rattle.lists.specs.Tables.{table}
@@ -102,10 +102,10 @@ module _ (nrows ncols : ℕ) (rows : ℕ → List ℕ) (vals : ℕ → List Floa
 
     -- the pointer of column j, and behind the last column
     pointers-more : (k : ℕ) → k < j + 1 → get_or (set p j at) k 0 ≡ length (joined rows k)
-    pointers-more k l = ⊎_elim (λ (q : k ≡ j). rw (q, get_or-set_same p j at 0 room_p) s.at_is) (λ (q : k < j). get_or_set_other p j k at 0 (λ e. omega arith) ∙ s.p_front k q) (eq-or-lt_of_le (omega arith))
+    pointers-more k l = ⊎_elim (λ (q : k ≡ j). rw (q, get_or-set_same p j at 0 room_p) s.at_is) (λ (q : k < j). get_or-set_other p j k at 0 (λ e. omega arith) ∙ s.p_front k q) (eq-or-lt_of_le (omega arith))
 
     pointers-rest : (k : ℕ) → j + 1 ≤ k → get_or (set p j at) k 0 ≡ get_or p₀ k 0
-    pointers-rest k l = get_or_set_other p j k at 0 (λ e. omega arith) ∙ s.p_rest k (omega arith)
+    pointers-rest k l = get_or-set_other p j k at 0 (λ e. omega arith) ∙ s.p_rest k (omega arith)
 
     module _ (h : j < ncols) where
       -- the column has room behind what is written

@@ -7,7 +7,7 @@ use native.Mathlib.Nat.{eq-or-lt_of_le}
 use native.Mathlib.Numerals.{add-one}
 use native.Mathlib.Omega.{arith}
 use lib.ListN.{length, get_or, set, take, drop, length-set, get_or-eq_default, get_or-append}
-use lib.Seq.{get_or-set_same, get_or_set_other}
+use lib.Seq.{get_or-set_same, get_or-set_other}
 use Rattle.lists.specs.Calls.{onto, cleared}
 use Rattle.lists.specs.Keys.{of_key, by_key}
 use Rattle.lists.specs.Tables.{table}
@@ -54,7 +54,7 @@ module _ {cols p₀ p : List ℕ} {k : ℕ} (v : Ending cols p₀ p k) (h : k < 
   here = get_or-set_same p (C + 1) (k + 1) 0 c_in
 
   there : (c : ℕ) → (c ≡ C + 1 → ⊥) → get_or (set p (C + 1) (k + 1)) c 0 ≡ get_or p c 0
-  there c n = get_or_set_other p (C + 1) c (k + 1) 0 n
+  there c n = get_or-set_other p (C + 1) c (k + 1) 0 n
 
   pub ending_turn : Ending cols p₀ (set p (C + 1) (k + 1)) (k + 1)
   ending_turn =
@@ -118,9 +118,9 @@ module _ {p₀ p : List ℕ} {high k : ℕ} (v : Raising p₀ p high k) (h : k <
             λ q l.
             ⊎_elim
             (λ (f : q ≡ k). rw f (get_or-set_same p k x 0 h ∙ t))
-            (λ (f : q < k). get_or_set_other p k q x 0 (λ e. omega arith) ∙ v.done q f)
+            (λ (f : q < k). get_or-set_other p k q x 0 (λ e. omega arith) ∙ v.done q f)
             (eq-or-lt_of_le (omega arith));
-        rest = λ q l. get_or_set_other p k q x 0 (λ e. omega arith) ∙ v.rest q (omega arith);
+        rest = λ q l. get_or-set_other p k q x 0 (λ e. omega arith) ∙ v.rest q (omega arith);
         top = rw (add-one k) t;
       }
 

@@ -6,7 +6,7 @@ use native.Mathlib.Numerals.{add-one}
 use native.Mathlib.Omega.{arith}
 use lib.Ieee.{Float, nan, binary64, div}
 use lib.ListN.{length, get_or, set, take, length-set, length-take, length-map}
-use lib.Seq.{get_or_set_other, take-suc, take_all}
+use lib.Seq.{get_or-set_other, take-suc, take_all}
 use borrow.Author.Tests.{le-leb, lt-leb}
 use Rattle.lists.specs.Calls.{onto, none}
 use Rattle.lists.specs.Folds.{along}
@@ -76,7 +76,7 @@ module _ {d : Float} {rows : List ℕ} {vals₀ x₀ vals x : List Float} {q : �
           asks = w.asks;
           long = length-set x z none ∙ w.long;
           is = along-turn zero_at rows 0 w.is h (rw e);
-          unread = λ r a b. get_or_set_other x z (get_or rows r 0) none nan (λ y. w.asks.once q r (omega arith) b (sym e ∙ sym y)) ∙ w.unread r (omega arith) b;
+          unread = λ r a b. get_or-set_other x z (get_or rows r 0) none nan (λ y. w.asks.once q r (omega arith) b (sym e ∙ sym y)) ∙ w.unread r (omega arith) b;
           vals_are =
               let Q = quotients d (take q rows) x₀ in
               let n : q ≡ length Q = sym (front (omega arith)) in

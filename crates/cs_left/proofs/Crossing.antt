@@ -8,7 +8,7 @@ use native.Mathlib.Omega.{arith}
 use lib.Dec.{ltb}
 use lib.Ieee.{Float, nan, neg}
 use lib.ListN.{length, get_or, set, drop, length-set}
-use lib.Seq.{get_or_set_other}
+use lib.Seq.{get_or-set_other}
 use borrow.Author.Tests.{le-leb, lt-leb, lt-ltb, le-ltb}
 use Rattle.lists.specs.Entries.{Entries, plus_at}
 use Rattle.lists.specs.Folds.{along, over}
@@ -155,7 +155,7 @@ module _ {k : ℕ} {us lp li : List ℕ} {lx : List Float} {next₀ : List ℕ} 
             next_long = length-set next j _ ∙ w.next_long;
             x_is = along-turn (add_step k lp li lx) us 0 w.x_is h (y ∙ crossing_adds adding_here a b x ∙ (rw (← e, lt-ltb j k g)));
             next_is = along-turn (advance k) us 0 w.next_is h (rw (← e, lt-ltb j k g, a));
-            ahead = λ r i m. get_or_set_other next j (get_or us r 0) (s + 1) 0 (λ z. w.asks.once q r (omega arith) m (sym e ∙ sym z)) ∙ w.ahead r (omega arith) m;
+            ahead = λ r i m. get_or-set_other next j (get_or us r 0) (s + 1) 0 (λ z. w.asks.once q r (omega arith) m (sym e ∙ sym z)) ∙ w.ahead r (omega arith) m;
           }
 
     pub adding_pass : k ≤ j → Adding k us lp li lx next₀ x₀ next x (q + 1)

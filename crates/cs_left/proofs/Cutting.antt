@@ -8,7 +8,7 @@ use Prim.Native.Nat.{ℕ, ◌+◌, ◌-◌, ◌≤◌, ◌<◌}
 use native.Mathlib.Omega.{arith}
 use lib.Dec.{ltb}
 use lib.ListN.{length, get_or, set, length-set}
-use lib.Seq.{get_or-set_same, get_or_set_other}
+use lib.Seq.{get_or-set_same, get_or-set_other}
 use borrow.Author.Tests.{lt-ltb}
 use Rattle.lists.specs.Folds.{along}
 use Rattle.lists.specs.Order.{Rising, Once, no_more, one_more}
@@ -61,7 +61,7 @@ module _ (k : ℕ) where
   advance_other i w j n = go (ltb i k)
     where
       go : (b : Bool) → get_or (cond b (set w i (get_or w i 0 + 1)) w) j 0 ≡ get_or w j 0
-      go true = get_or_set_other w i j _ 0 n
+      go true = get_or-set_other w i j _ 0 n
       go false = refl
 
   advance-is : (j : ℕ) (w : List ℕ) → j < k → advance k j w ≡ set w j (get_or w j 0 + 1)

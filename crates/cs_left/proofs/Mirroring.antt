@@ -7,7 +7,7 @@ use Prim.Native.Nat.{ℕ, ◌+◌, ◌-◌, ◌≤◌, ◌<◌}
 use native.Mathlib.Omega.{arith}
 use lib.Dec.{ltb, eqb}
 use lib.ListN.{length, get_or, set, length-set}
-use lib.Seq.{get_or-set_same, get_or_set_other}
+use lib.Seq.{get_or-set_same, get_or-set_other}
 use borrow.Author.Tests.{lt-ltb, le-ltb, eq-eqb, ne_eqb, eqb-true}
 use Rattle.lists.proofs.Bools.{le-or-lt, eq-or-ne, and-false}
 use Rattle.lists.proofs.Spots.{member_at}
@@ -46,14 +46,14 @@ mirrors_met {c} {r} {p} {i} next m l w = record { met = λ k y a b d. go (ltb (g
     go true true e k y f g h =
         ⊎_elim
         (λ (d : k ≡ r). at_r k y d (eqb-true (get_or i (get_or next r 0) 0) c e) f g (rw (d, get_or-set_same next r (get_or next r 0 + 1) 0 l) at h))
-        (λ (d : k ≡ r → ⊥). w.met k y f g (rw (get_or_set_other next r k (get_or next r 0 + 1) 0 d) at h))
+        (λ (d : k ≡ r → ⊥). w.met k y f g (rw (get_or-set_other next r k (get_or next r 0 + 1) 0 d) at h))
         (eq-or-ne k r)
     go true false e k y f g h = w.met k y f g h
     go false b e k y f g h = w.met k y f g h
 
 -- column c walked
 pub walked_next : {c : ℕ} {p i next : List ℕ} {q : ℕ} → Walked c p i next q → c < length next → Mirrors (c + 1) p i (set next c q)
-walked_next {c} {p} {i} {next} {q} w l = record { met = λ r y a b d. ⊎_elim (λ (e : r ≡ c). same r y e b d) (λ (e : r ≡ c → ⊥). w.mirrors.met r y (omega arith) b (rw (get_or_set_other next c r q 0 e) at d)) (eq-or-ne r c) }
+walked_next {c} {p} {i} {next} {q} w l = record { met = λ r y a b d. ⊎_elim (λ (e : r ≡ c). same r y e b d) (λ (e : r ≡ c → ⊥). w.mirrors.met r y (omega arith) b (rw (get_or-set_other next c r q 0 e) at d)) (eq-or-ne r c) }
   where
     same : (r y : ℕ) → r ≡ c → get_or p r 0 ≤ y → y < get_or (set next c q) r 0 → Met p i r (get_or i y 0)
     same r y e b d = inl (rw e (w.above y (rw e at b) (rw (e, get_or-set_same next c q 0 l) at d)))

@@ -9,7 +9,7 @@ use native.Mathlib.Omega.{arith}
 use lib.Dec.{leb, ltb}
 use lib.Ieee.{Float, nan, lt, binary64, of_bits, add, mul, neg}
 use lib.ListN.{get_or, set, replicate, get_or-replicate}
-use lib.Seq.{get_or_set_other}
+use lib.Seq.{get_or-set_other}
 use borrow.Author.Tests.{lt-ltb, leb-true, ltb-true}
 use Rattle.lists.specs.Calls.{none}
 use Rattle.lists.specs.Choices.{some, chosen}
@@ -44,7 +44,7 @@ module _ (k z : ℕ) where
   put_off rows vals h x = over-keeps (λ (s : List Float). get_or s z nan) (put_at k) rows vals (λ r v s m. go (leb k r) r refl v s m) x
     where
       go : (b : Bool) (r : ℕ) → leb k r ≡ b → (v : Float) (s : List Float) → Memᴰ r rows → get_or (cond b (set s r v) s) z nan ≡ get_or s z nan
-      go true r e v s m = get_or_set_other s r z v nan (h r m (leb-true k r e))
+      go true r e v s m = get_or-set_other s r z v nan (h r m (leb-true k r e))
       go false r e v s m = refl
 
   add_off : (f : Float) (rows : List ℕ) (vals : List Float) → ((r : ℕ) → Memᴰ r rows → k ≤ r → z ≡ r → ⊥) → (x : List Float) → get_or (over (add_at k f) rows vals x) z nan ≡ get_or x z nan
@@ -52,7 +52,7 @@ module _ (k z : ℕ) where
   add_off f rows vals h x = over-keeps (λ (s : List Float). get_or s z nan) (add_at k f) rows vals (λ r v s m. go (leb k r) r refl v s m) x
     where
       go : (b : Bool) (r : ℕ) → leb k r ≡ b → (v : Float) (s : List Float) → Memᴰ r rows → get_or (cond b (set s r (add binary64 (get_or s r nan) (mul binary64 v f))) s) z nan ≡ get_or s z nan
-      go true r e v s m = get_or_set_other s r z _ nan (h r m (leb-true k r e))
+      go true r e v s m = get_or-set_other s r z _ nan (h r m (leb-true k r e))
       go false r e v s m = refl
 
   adds_off : (ls : List (List ℕ)) (done : List (List Float)) (us : List ℕ) → ((j r : ℕ) → Memᴰ j us → j < k → Memᴰ r (get_or ls j []) → k ≤ r → z ≡ r → ⊥) → (x : List Float)

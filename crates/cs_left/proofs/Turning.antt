@@ -10,7 +10,7 @@ use native.Mathlib.Omega.{arith}
 use lib.Dec.{ltb}
 use lib.Ieee.{Float, nan, lt}
 use lib.ListN.{length, get_or, set, take, drop, replicate, length-set, length-replicate, length-append, take-append-drop, get_or-replicate}
-use lib.Seq.{take_all, take-append-le, take-append_seam, get_or-set_same, get_or_set_other, ext_get_or}
+use lib.Seq.{take_all, take-append-le, take-append_seam, get_or-set_same, get_or-set_other, ext_get_or}
 use borrow.Author.Tests.{ltb-true}
 use Rattle.lists.specs.Calls.{none}
 use Rattle.lists.specs.Entries.{Entries}
@@ -46,7 +46,7 @@ among e t = rw e at t
 -- ---- zeros put back
 zero_off : (rows : List ℕ) (x : List Float) (z : ℕ) → (Memᴰ z rows → ⊥) → get_or (along zero_at rows x) z nan ≡ get_or x z nan
 unfolding zero_at
-zero_off rows x z n = along-keeps (λ (s : List Float). get_or s z nan) zero_at rows (λ r s m. get_or_set_other s r z none nan (λ e. n (rw e m))) x
+zero_off rows x z n = along-keeps (λ (s : List Float). get_or s z nan) zero_at rows (λ r s m. get_or-set_other s r z none nan (λ e. n (rw e m))) x
 
 zero_on : (rows : List ℕ) (x : List Float) (z : ℕ) → z < length x → Memᴰ z rows → get_or (along zero_at rows x) z nan ≡ none
 unfolding along zero_at
@@ -350,7 +350,7 @@ module _ {n : ℕ} {p i : List ℕ} {v : List Float} {up ui lp li : List ℕ} {r
             (let e : j ≡ k = omega arith in
             let m : get_or next2 k 0 ≡ get_or lp k 0 + 1 = ap (λ (s : List ℕ). get_or s k 0) f.2 ∙ get_or-set_same next1 k _ 0 (omega (arith, next1_long)) in
             rw e (record { m = 1; is = m; cut = cut_first (get_or L k []) (S.promised.rise k) (λ q r. (l_row S h q r).0) (diagonal-in S Q h w.done (g.0 ∙ ap (λ (s : List Float). get_or s k nan) x_is) t) })))
-            (λ (z : j < k). (let m : get_or next2 j 0 ≡ get_or next1 j 0 = ap (λ (s : List ℕ). get_or s j 0) f.2 ∙ get_or_set_other next1 k j _ 0 (λ (e : j ≡ k). omega arith) in rw m (next1_at j z))) (le-or-lt k j)
+            (λ (z : j < k). (let m : get_or next2 j 0 ≡ get_or next1 j 0 = ap (λ (s : List ℕ). get_or s j 0) f.2 ∙ get_or-set_other next1 k j _ 0 (λ (e : j ≡ k). omega arith) in rw m (next1_at j z))) (le-or-lt k j)
 
         y1_zeros : y1 ≡ replicate n none
         y1_zeros = ext_get_or nan y1 (replicate n none) (y1_long ∙ sym (length-replicate n none)) (λ z b. at z (omega (arith, y1_long)) ∙ sym (get_or-replicate n z none nan (omega (arith, y1_long))))

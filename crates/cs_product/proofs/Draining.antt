@@ -9,7 +9,7 @@ use native.Mathlib.Omega.{arith}
 use lib.Dec.{eqb}
 use lib.Ieee.{Float, nan, ne}
 use lib.ListN.{length, get_or, set, take, replicate, length-append, length-set, length-map, length-replicate, get_or-replicate}
-use lib.Seq.{get_or-set_same, get_or_set_other, take-suc, take_all, ext_get_or}
+use lib.Seq.{get_or-set_same, get_or-set_other, take-suc, take_all, ext_get_or}
 use borrow.Author.Tests.{eq-eqb, ne_eqb}
 use Rattle.lists.specs.Calls.{none}
 use Rattle.lists.specs.Choices.{keep}
@@ -61,7 +61,7 @@ module _ (n : ℕ) (rows : List ℕ) where
             long = length-set x r none ∙ s.long;
             value = λ q g. ⊎_elim
                 (λ (z : q ≡ r). rw (taken q, eq-eqb q r z, or-true (lists q (take k rows)), z, get_or-set_same x r none nan r_in_x))
-                (λ z. rw (taken q, ne_eqb q r z, or-none (lists q (take k rows))) (get_or_set_other x r q none nan z ∙ s.value q g))
+                (λ z. rw (taken q, ne_eqb q r z, or-none (lists q (take k rows))) (get_or-set_other x r q none nan z ∙ s.value q g))
                 (eq-or-ne q r);
           }
         where

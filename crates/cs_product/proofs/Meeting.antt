@@ -10,7 +10,7 @@ use native.Mathlib.Omega.{arith}
 use lib.Dec.{eqb}
 use lib.Ieee.{Float, nan, binary64, add, mul}
 use lib.ListN.{length, get_or, set, take, length-append, length-set, length-replicate, get_or-replicate}
-use lib.Seq.{get_or-set_same, get_or_set_other, get_or-take, take-suc-set, length-take-le}
+use lib.Seq.{get_or-set_same, get_or-set_other, get_or-take, take-suc-set, length-take-le}
 use borrow.Author.Tests.{eq-eqb, ne_eqb}
 use Rattle.lists.specs.Calls.{none}
 use Rattle.lists.specs.Entries.{plus_at}
@@ -58,7 +58,7 @@ module _ {n stamp : ℕ} {mark met : List ℕ} {x : List Float} {count : ℕ} (m
         marked = m.marked;
         listed = m.listed;
         most = m.most;
-        zero = λ q g f. get_or_set_other x r q y nan (λ z. not-both (lists q rows) (rw z (m.marked r h e)) f) ∙ m.zero q g f;
+        zero = λ q g f. get_or-set_other x r q y nan (λ z. not-both (lists q rows) (rw z (m.marked r h e)) f) ∙ m.zero q g f;
       }
 
   -- a row that is met first
@@ -99,11 +99,11 @@ module _ {n stamp : ℕ} {mark met : List ℕ} {x : List Float} {count : ℕ} (m
           x_long = length-set x r y ∙ m.x_long;
           within = omega (arith, more_room);
           once = rw taken more-once;
-          below = λ k g. ⊎_elim (λ (z : k ≡ count). rw (z, get_or-set_same met count r 0 count-in_met) h) (λ (z : k < count). rw (get_or_set_other met count k r 0 (λ w. omega arith)) (m.below k z)) (eq-or-lt_of_le (omega arith));
-          marked = λ q g f. was q ∙ ⊎_elim (λ (z : q ≡ r). rw (eq-eqb q r z) (or-true (lists q rows))) (λ z. rw (ne_eqb q r z) (or-none (lists q rows) ∙ m.marked q g (sym (get_or_set_other mark r q stamp 0 z) ∙ f))) (eq-or-ne q r);
-          listed = λ q g f. ⊎_elim (λ (z : q ≡ r). rw (z, get_or-set_same mark r stamp 0 r_in_mark)) (λ z. get_or_set_other mark r q stamp 0 z ∙ m.listed q g (sym (still q z) ∙ f)) (eq-or-ne q r);
-          most = λ q g. ⊎_elim (λ (z : q ≡ r). rw (z, get_or-set_same mark r stamp 0 r_in_mark) (omega arith)) (λ z. rw (get_or_set_other mark r q stamp 0 z) (m.most q g)) (eq-or-ne q r);
-          zero = λ q g f. let t = or-false (lists q rows) (eqb q r) (sym (was q) ∙ f) in ⊎_elim (λ (z : q ≡ r). absurd (not-both (eqb q r) (eq-eqb q r z) t.1)) (λ z. get_or_set_other x r q y nan z ∙ m.zero q g t.0) (eq-or-ne q r);
+          below = λ k g. ⊎_elim (λ (z : k ≡ count). rw (z, get_or-set_same met count r 0 count-in_met) h) (λ (z : k < count). rw (get_or-set_other met count k r 0 (λ w. omega arith)) (m.below k z)) (eq-or-lt_of_le (omega arith));
+          marked = λ q g f. was q ∙ ⊎_elim (λ (z : q ≡ r). rw (eq-eqb q r z) (or-true (lists q rows))) (λ z. rw (ne_eqb q r z) (or-none (lists q rows) ∙ m.marked q g (sym (get_or-set_other mark r q stamp 0 z) ∙ f))) (eq-or-ne q r);
+          listed = λ q g f. ⊎_elim (λ (z : q ≡ r). rw (z, get_or-set_same mark r stamp 0 r_in_mark)) (λ z. get_or-set_other mark r q stamp 0 z ∙ m.listed q g (sym (still q z) ∙ f)) (eq-or-ne q r);
+          most = λ q g. ⊎_elim (λ (z : q ≡ r). rw (z, get_or-set_same mark r stamp 0 r_in_mark) (omega arith)) (λ z. rw (get_or-set_other mark r q stamp 0 z) (m.most q g)) (eq-or-ne q r);
+          zero = λ q g f. let t = or-false (lists q rows) (eqb q r) (sym (was q) ∙ f) in ⊎_elim (λ (z : q ≡ r). absurd (not-both (eqb q r) (eq-eqb q r z) t.1)) (λ z. get_or-set_other x r q y nan z ∙ m.zero q g t.0) (eq-or-ne q r);
         }
       where
         or-true : (b : Bool) → (b || true) ≡ true

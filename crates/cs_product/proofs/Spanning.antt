@@ -9,7 +9,7 @@ use native.Mathlib.Nat.{eq-or-lt_of_le}
 use native.Mathlib.Omega.{arith}
 use lib.Ieee.{Float, nan, eq, binary64, add, mul}
 use lib.ListN.{length, get_or, set, replicate, get_or-replicate}
-use lib.Seq.{get_or_set_other}
+use lib.Seq.{get_or-set_other}
 use Rattle.lists.specs.Calls.{none}
 use Rattle.lists.specs.Choices.{chosen}
 use Rattle.lists.specs.Entries.{plus_at}
@@ -141,7 +141,7 @@ module _ (n : ℕ) where
   unfolding plus_at remains
   at_more beta r v w =
       let y = add binary64 (get_or w r nan) (mul binary64 v beta) in
-      chosen_but n (remains (set w r y)) (remains w) r (λ q h d e. sym (ap (λ (t : Float). not (eq t none)) (get_or_set_other w r q y nan d)) ∙ e)
+      chosen_but n (remains (set w r y)) (remains w) r (λ q h d e. sym (ap (λ (t : Float). not (eq t none)) (get_or-set_other w r q y nan d)) ∙ e)
 
   over-more : (beta : Float) (rows : List ℕ) (vals w : List Float) → many (over (plus_at beta) rows vals w) ≤ many w + length rows
   unfolding over
@@ -152,7 +152,7 @@ module _ (n : ℕ) where
 -- ---- what is not added to
 over-keeps : (beta : Float) (rows : List ℕ) (vals w : List Float) (r : ℕ) → ((q : ℕ) → q < length rows → get_or rows q 0 ≡ r → ⊥) → get_or (over (plus_at beta) rows vals w) r nan ≡ get_or w r nan
 unfolding plus_at
-over-keeps beta rows vals w r f = over_other nan (plus_at beta) r (λ z v x n. get_or_set_other x z r _ nan n) rows vals f w
+over-keeps beta rows vals w r f = over_other nan (plus_at beta) r (λ z v x n. get_or-set_other x z r _ nan n) rows vals f w
 
 module _ (a : Matrix) where
   abbrev rows_of : ℕ → List ℕ

@@ -8,7 +8,7 @@ use native.Mathlib.Nat.{eq-or-lt_of_le}
 use native.Mathlib.Omega.{arith}
 use lib.Ieee.{Float, nan, ne}
 use lib.ListN.{length, get_or, set, replicate, length-append, length-set, length-map, length-replicate, get_or-replicate}
-use lib.Seq.{get_or-set_same, get_or_set_other, ext_get_or}
+use lib.Seq.{get_or-set_same, get_or-set_other, ext_get_or}
 use Rattle.lists.specs.Calls.{none}
 use Rattle.lists.specs.Choices.{chosen}
 use Rattle.lists.specs.Folds.{over}
@@ -89,10 +89,10 @@ module _ (n lo hi start : ℕ) where
       test = rw (s.left r (omega arith))
 
       out_done : (q : ℕ) → q < r + 1 → get_or (set x r none) q nan ≡ none
-      out_done q g = ⊎_elim (λ (e : q ≡ r). rw e (get_or-set_same x r none nan r_in)) (λ (l : q < r). get_or_set_other x r q none nan (λ e. omega arith) ∙ s.done q l) (eq-or-lt_of_le (omega arith))
+      out_done q g = ⊎_elim (λ (e : q ≡ r). rw e (get_or-set_same x r none nan r_in)) (λ (l : q < r). get_or-set_other x r q none nan (λ e. omega arith) ∙ s.done q l) (eq-or-lt_of_le (omega arith))
 
       out_left : (q : ℕ) → r + 1 ≤ q → get_or (set x r none) q nan ≡ get_or x₀ q nan
-      out_left q g = get_or_set_other x r q none nan (λ e. omega arith) ∙ s.left q (omega arith)
+      out_left q g = get_or-set_other x r q none nan (λ e. omega arith) ∙ s.left q (omega arith)
 
       module _ (t : ne (get_or x r nan) none ≡ true) where
         more : kept x₀ (r + 1) ≡ kept x₀ r ++ (r ∷ [])

@@ -8,7 +8,7 @@ use native.Mathlib.Omega.{arith}
 use lib.Dec.{ltb}
 use lib.Ieee.{Float, nan, binary64, sub, mul, div}
 use lib.ListN.{length, get_or, set, length-set}
-use lib.Seq.{set_out, set-set, set-get_or, get_or-set_same, get_or_set_other}
+use lib.Seq.{set_out, set-set, set-get_or, get_or-set_same, get_or-set_other}
 use borrow.Author.Tests.{lt-ltb, le-ltb}
 use Rattle.lists.specs.Folds.{over}
 use Rattle.lists.proofs.Bools.{le-or-lt}
@@ -106,7 +106,7 @@ module _ (j i : ℕ) (v : Float) (b : List Float) (y : Float) where
 
   raise_set : j < length b → j < i → set b j (sub binary64 y (mul binary64 v (get_or b i nan))) ≡ raise_at j i v (set b j y)
   unfolding raise_at
-  raise_set g h = rw (lt-ltb j i h, get_or-set_same b j y nan g, get_or_set_other b j i y nan (λ (e : i ≡ j). omega arith), set-set b j y (sub binary64 y (mul binary64 v (get_or b i nan))))
+  raise_set g h = rw (lt-ltb j i h, get_or-set_same b j y nan g, get_or-set_other b j i y nan (λ (e : i ≡ j). omega arith), set-set b j y (sub binary64 y (mul binary64 v (get_or b i nan))))
 
 length-raise_at : (j i : ℕ) (v : Float) (b : List Float) → length (raise_at j i v b) ≡ length b
 unfolding raise_at

@@ -9,7 +9,7 @@ use lib.Dec.{T}
 use lib.Ieee.{Float, nan, binary64, of_bits, sub, mul, div, fits}
 use lib.Ieee.Fits.{sub-fits, mul-fits, div-fits}
 use lib.ListN.{length, get_or, set, replicate, length-set, length-replicate, get_or-replicate}
-use lib.Seq.{get_or-set_same, get_or_set_other}
+use lib.Seq.{get_or-set_same, get_or-set_other}
 use borrow.Author.Tests.{lt-ltb, le-ltb}
 use Rattle.lists.specs.Calls.{none}
 use Rattle.lists.specs.Choices.{chosen}
@@ -76,13 +76,13 @@ module _ (n : ℕ) (p i : List ℕ) (v : List Float) (bi : List ℕ) (bv : List 
     each : (k : ℕ) → k < n → Point k (get_or d k nan) (get_or s k nan)
 
   put_both : {d s : List Float} → Rel d s → (q : ℕ) → q < n → {x y : Float} → Point q x y → Rel (set d q x) (set s q y)
-  put_both {d} {s} r q h {x} {y} c = record { long_d = length-set d q x ∙ r.long_d; long_s = length-set s q y ∙ r.long_s; each = λ k l. ⊎_elim (λ (e : k ≡ q). here k e) (λ (e : k ≡ q → ⊥). rw (get_or_set_other d q k x nan e, get_or_set_other s q k y nan e) (r.each k l)) (eq-or-ne k q) }
+  put_both {d} {s} r q h {x} {y} c = record { long_d = length-set d q x ∙ r.long_d; long_s = length-set s q y ∙ r.long_s; each = λ k l. ⊎_elim (λ (e : k ≡ q). here k e) (λ (e : k ≡ q → ⊥). rw (get_or-set_other d q k x nan e, get_or-set_other s q k y nan e) (r.each k l)) (eq-or-ne k q) }
     where
       here : (k : ℕ) → k ≡ q → Point k (get_or (set d q x) k nan) (get_or (set s q y) k nan)
       here k e = rw (e, get_or-set_same d q x nan (omega (arith, r.long_d)), get_or-set_same s q y nan (omega (arith, r.long_s))) c
 
   put-left : {d s : List Float} → Rel d s → (q : ℕ) → q < n → {x : Float} → Point q x (get_or s q nan) → Rel (set d q x) s
-  put-left {d} {s} r q h {x} c = record { long_d = length-set d q x ∙ r.long_d; long_s = r.long_s; each = λ k l. ⊎_elim (λ (e : k ≡ q). here k e) (λ (e : k ≡ q → ⊥). rw (get_or_set_other d q k x nan e) (r.each k l)) (eq-or-ne k q) }
+  put-left {d} {s} r q h {x} c = record { long_d = length-set d q x ∙ r.long_d; long_s = r.long_s; each = λ k l. ⊎_elim (λ (e : k ≡ q). here k e) (λ (e : k ≡ q → ⊥). rw (get_or-set_other d q k x nan e) (r.each k l)) (eq-or-ne k q) }
     where
       here : (k : ℕ) → k ≡ q → Point k (get_or (set d q x) k nan) (get_or s k nan)
       here k e = rw (e, get_or-set_same d q x nan (omega (arith, r.long_d))) c

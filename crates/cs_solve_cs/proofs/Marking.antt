@@ -7,7 +7,7 @@ use Prim.Native.Nat.{ℕ, ◌+◌, ◌≤◌, ◌<◌}
 use native.Mathlib.Omega.{arith}
 use lib.Dec.{leb, eqb}
 use lib.ListN.{length, get_or, set, length-set}
-use lib.Seq.{set_out, get_or-set_same, get_or_set_other}
+use lib.Seq.{set_out, get_or-set_same, get_or-set_other}
 use borrow.Author.Tests.{le-leb, lt-leb, eq-eqb, ne_eqb}
 use Rattle.lists.specs.Folds.{along}
 use Rattle.lists.specs.Order.{lists}
@@ -53,7 +53,7 @@ module _ (from r : ℕ) (w : List ℕ) where
           go false = refl
 
       other : (k ≡ r → ⊥) → (t : Bool) → marked (cond t (set w r 1) w) k ≡ ((eqb k r && leb from k) || marked w k)
-      other e true = rw (ne_eqb k r e, get_or_set_other w r k 1 0 e)
+      other e true = rw (ne_eqb k r e, get_or-set_other w r k 1 0 e)
       other e false = rw (ne_eqb k r e)
 
 -- ---- the loop

@@ -7,7 +7,7 @@ use Prim.Native.Nat.{ℕ, ◌+◌, ◌≤◌, ◌<◌}
 use native.Mathlib.Omega.{arith}
 use lib.Ieee.{Float, nan, binary64, sub, mul, div}
 use lib.ListN.{length, get_or, set, length-append, length-map, length-set}
-use lib.Seq.{set_out, get_or_set_other}
+use lib.Seq.{set_out, get_or-set_other}
 use borrow.Author.Tests.{eq-eqb, ne_eqb}
 use Rattle.lists.specs.Calls.{onto}
 use Rattle.lists.specs.Choices.{chosen}
@@ -59,14 +59,14 @@ module _ (j k : ℕ) (h : k < j) where
   lower-keeps x i v b =
       ⊎_elim
       (λ (g : i ≤ j). sym (ap at_k (lower-above j x i v b g)))
-      (λ (g : j < i). sym (ap at_k (lower-set j x i v b g)) ∙ get_or_set_other b i k (sub binary64 (get_or b i nan) (mul binary64 x v)) nan (λ (e : k ≡ i). omega arith))
+      (λ (g : j < i). sym (ap at_k (lower-set j x i v b g)) ∙ get_or-set_other b i k (sub binary64 (get_or b i nan) (mul binary64 x v)) nan (λ (e : k ≡ i). omega arith))
       (le-or-lt i j)
 
   forward-keeps : (d : Float) (rows : List ℕ) (vals b : List Float) → at_k (forward_at j d rows vals b) ≡ at_k b
   unfolding forward_at
   forward-keeps d rows vals b =
       let x = div binary64 (get_or b j nan) d in
-      over-keeps at_k (lower_at j x) rows vals (λ i v c m. lower-keeps x i v c) (set b j x) ∙ get_or_set_other b j k x nan (λ (e : k ≡ j). omega arith)
+      over-keeps at_k (lower_at j x) rows vals (λ i v c m. lower-keeps x i v c) (set b j x) ∙ get_or-set_other b j k x nan (λ (e : k ≡ j). omega arith)
 
   pub column-keeps : (a : Matrix) (b : List Float) → at_k (forward_column a j b) ≡ at_k b
   unfolding forward_column

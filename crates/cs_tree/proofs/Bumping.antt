@@ -7,7 +7,7 @@ use Prim.Native.Nat.{ℕ, zero, suc, ◌+◌, ◌*◌, ◌≤◌, ◌<◌, ◌%�
 use native.Mathlib.Numerals.{add-one}
 use native.Mathlib.Omega.{arith}
 use lib.ListN.{length, get_or, set, take, length-set}
-use lib.Seq.{get_or_set_other, take-suc, take_all}
+use lib.Seq.{get_or-set_other, take-suc, take_all}
 use borrow.Author.Tests.{eq-eqb, ne_eqb}
 use Rattle.lists.specs.Keeping.{Kept}
 use Rattle.lists.specs.Order.{lists, rises}
@@ -76,7 +76,7 @@ module _ {k : ℕ} {par : List ℕ} {row : ℕ} {mark₀ mark counts₀ counts :
         record {
           walk = walk_next v.walk h e f;
           wide = rw length-set v.wide;
-          kept = kept_then v.kept (record { long = length-set counts i x; rest = λ q l. get_or_set_other counts i q x 0 (λ y. omega arith) });
+          kept = kept_then v.kept (record { long = length-set counts i x; rest = λ q l. get_or-set_other counts i q x 0 (λ y. omega arith) });
           tells = λ older m. go older m (v.tells older m).fuel (v.tells older m).goes (v.tells older m).enough;
         }
       where

@@ -5,7 +5,7 @@ use mathlib.Core.Logic.{⊎_elim}
 use Prim.Native.Nat.{ℕ, zero, suc, ◌+◌, ◌-◌, ◌≤◌, ◌<◌}
 use native.Mathlib.Omega.{arith}
 use lib.ListN.{length, get_or, set, length-set}
-use lib.Seq.{get_or-set_same, get_or_set_other}
+use lib.Seq.{get_or-set_same, get_or-set_other}
 use Rattle.lists.proofs.Bools.{eq-or-ne}
 use Rattle.lists.proofs.Members.{get_d_any}
 use Rattle.lists.proofs.Folds.{Along, along-start, along-turn, along-end}
@@ -22,7 +22,7 @@ above-set {a = a} k i v h = record { up = at }
         let l1 : j < length a = omega (arith, length-set a i k) in
         ⊎_elim
         (λ (e : j ≡ i). rw (e, get_or-set_same a i k 0 (omega arith)) h)
-        (λ (e : j ≡ i → ⊥). rw (get_or_set_other a i j k 0 e) (v.up j l1))
+        (λ (e : j ≡ i → ⊥). rw (get_or-set_other a i j k 0 e) (v.up j l1))
         (eq-or-ne j i)
 
 -- ---- the climb from i₀, at i now

@@ -7,7 +7,7 @@ use Prim.Native.Nat.{ℕ, suc, ◌+◌, ◌-◌, ◌≤◌, ◌<◌}
 use native.Mathlib.Numerals.{add-one}
 use native.Mathlib.Omega.{arith}
 use lib.ListN.{length, get_or, set, take, drop, length-set}
-use lib.Seq.{get_or-set_same, get_or_set_other, take_all, take_at, drop-set-lt}
+use lib.Seq.{get_or-set_same, get_or-set_other, take_all, take_at, drop-set-lt}
 use Rattle.lists.specs.Calls.{onto}
 use Rattle.lists.specs.Keys.{by_key}
 use Rattle.lists.specs.Order.{Once}
@@ -217,9 +217,9 @@ module _ {cols : List (List ℕ)} {par : List ℕ} (g : Given cols par) where
                   λ i b c.
                   ⊎_elim
                   (λ (q : i ≡ j). rw (q, get_or-set_same up j low 0 (omega (arith, v.up_long, v.up_room, j_in))) low_is)
-                  (λ (q : i ≡ j → ⊥). get_or_set_other up j i low 0 q ∙ v.up_at i (omega arith) c)
+                  (λ (q : i ≡ j → ⊥). get_or-set_other up j i low 0 q ∙ v.up_at i (omega arith) c)
                   (eq-or-ne i j);
-              up_rest = λ i b. get_or_set_other up j i low 0 (λ q. omega (arith, j_in)) ∙ v.up_rest i b;
+              up_rest = λ i b. get_or-set_other up j i low 0 (λ q. omega (arith, j_in)) ∙ v.up_rest i b;
               ui_room = v.ui_room;
               ui_long = l ∙ v.ui_long;
               ui_back =

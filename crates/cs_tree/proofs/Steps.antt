@@ -6,7 +6,7 @@ use mathlib.Core.List.{List, [], ◌∷◌}
 use Prim.Native.Nat.{ℕ, zero, suc, ◌≤◌, ◌<◌}
 use native.Mathlib.Decide.{ℕ_discrete}
 use lib.ListN.{get_or, set, length}
-use lib.Seq.{get_or-set_same, get_or_set_other}
+use lib.Seq.{get_or-set_same, get_or-set_other}
 use lib.Dec.{T, ltb, leb, eqb}
 use mir.Facts.{yes_ltb, no_ltb, yes_leb, no_leb, yes_eqb, no_eqb}
 use Rattle.lists.specs.Order.{lists}
@@ -37,7 +37,7 @@ climb_on f k i s h e = rw (is_true (ltb i k) (yes_ltb h), is_false (eqb (get_or 
 
 -- get_or after set, by one test of the index
 pub get_d_set : (l : List ℕ) (i j a d : ℕ) → i < length l → ((j ≡ i) × (get_or (set l i a) j d ≡ a)) ⊎ ((j ≢ i) × (get_or (set l i a) j d ≡ get_or l j d))
-get_d_set l i j a d h = elim (ℕ_discrete j i) [ yes e ↦ inl (e, rw e (get_or-set_same l i a d h)) | no n ↦ inr (n, get_or_set_other l i j a d n) ]
+get_d_set l i j a d h = elim (ℕ_discrete j i) [ yes e ↦ inl (e, rw e (get_or-set_same l i a d h)) | no n ↦ inr (n, get_or-set_other l i j a d n) ]
 
 -- ---- paths
 

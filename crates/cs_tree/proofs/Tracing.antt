@@ -6,7 +6,7 @@ use mathlib.Core.List.{List, [], ◌∷◌, ◌++◌, append-nil, append_assoc}
 use Prim.Native.Nat.{ℕ, zero, suc, ◌+◌, ◌-◌, ◌≤◌, ◌<◌}
 use native.Mathlib.Omega.{arith}
 use lib.ListN.{length, get_or, set, take, drop, length-set, length-append, take-append-drop}
-use lib.Seq.{get_or-set_same, get_or_set_other, drop-set-lt, drop_at, length-take-le, take-append-le}
+use lib.Seq.{get_or-set_same, get_or-set_other, drop-set-lt, drop_at, length-take-le, take-append-le}
 use borrow.Author.Tests.{ne_eqb}
 use Rattle.lists.specs.Order.{lists, rises}
 use Rattle.lists.specs.Parts.{part, placed}
@@ -149,7 +149,7 @@ module _ {len top low : ℕ} {out₀ out : List ℕ} {t : ℕ} (v : Shifting len
           ends = v.ends;
           inside = v.inside;
           within = omega (arith, v.within);
-          front = λ q l. get_or_set_other out j q x 0 (λ e. omega arith) ∙ v.front q (omega arith);
+          front = λ q l. get_or-set_other out j q x 0 (λ e. omega arith) ∙ v.front q (omega arith);
           back = a ∙ ap (λ (l : List ℕ). x ∷ l) v.back ∙ (rw (f, b));
         }
 

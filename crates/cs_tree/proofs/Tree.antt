@@ -7,7 +7,7 @@ use Prim.Native.Nat.{ℕ, zero, suc, ◌+◌, ◌≤◌, ◌<◌}
 use native.Mathlib.Omega.{arith}
 use native.Mathlib.Decide.{dec_lt, ℕ_discrete}
 use lib.ListN.{get_or, set, length, length-set, replicate, length-replicate, get_or-replicate, get_or-eq_default}
-use lib.Seq.{get_or_set_other}
+use lib.Seq.{get_or-set_other}
 use Rattle.lists.specs.Folds.{along}
 use Rattle.cs_tree.specs.Tree.{root, Forest, climb, climbs, tree_to}
 use Rattle.cs_tree.proofs.Reach.{Reach, here, up, reach_trans, reach_mono, reach_snoc}
@@ -110,7 +110,7 @@ module _ (cols : List (List ℕ)) (k : ℕ) (kn : k < length cols) (kr : k < roo
         ];
         linked = λ j n. elim (get_d_set s.anc i j k root i<a) [
           | inl q ↦ omega arith
-          | inr q ↦ λ e. m.sound.linked j (rw (get_or_set_other s.parent i j k root q.0) at n) (sym q.1 ∙ e)
+          | inr q ↦ λ e. m.sound.linked j (rw (get_or-set_other s.parent i j k root q.0) at n) (sym q.1 ∙ e)
         ];
         made = λ j n. elim (get_d_set s.parent i j k root i<p) [
           | inl q ↦ rw q.1 (record { from = i₀; low = low; mem = mem; way = rw q.0 (grown m.start) })

@@ -8,7 +8,7 @@ use Prim.Native.Nat.{ℕ, zero, suc, ◌+◌, ◌-◌, ◌*◌, ◌≤◌, ◌<�
 use native.Mathlib.Omega.{arith}
 use lib.Dec.{eqb}
 use lib.ListN.{length, get_or, set, drop, length-set, length-append}
-use lib.Seq.{get_or-set_same, get_or_set_other, append_snoc}
+use lib.Seq.{get_or-set_same, get_or-set_other, append_snoc}
 use borrow.Author.Tests.{eq-eqb, ne_eqb}
 use Rattle.lists.specs.Folds.{along}
 use Rattle.lists.specs.Order.{lists}
@@ -48,14 +48,14 @@ marks-more {k = k} {mark = mark} l acc i h v = record { at = at; most = most }
     at j m =
         ⊎_elim
         (λ (e : j ≡ i). rw (e, get_or-set_same mark i (k + 1) 0 h, same) (eq-eqb (k + 1) (k + 1) refl))
-        (λ (e : j ≡ i → ⊥). rw (get_or_set_other mark i j (k + 1) 0 e, other j e) (v.at j (omega (arith, length-set mark i (k + 1)))))
+        (λ (e : j ≡ i → ⊥). rw (get_or-set_other mark i j (k + 1) 0 e, other j e) (v.at j (omega (arith, length-set mark i (k + 1)))))
         (eq-or-ne j i)
 
     most : (j : ℕ) → j < length (set mark i (k + 1)) → get_or (set mark i (k + 1)) j 0 ≤ k + 1
     most j m =
         ⊎_elim
         (λ (e : j ≡ i). rw (e, get_or-set_same mark i (k + 1) 0 h) (omega arith))
-        (λ (e : j ≡ i → ⊥). rw (get_or_set_other mark i j (k + 1) 0 e) (v.most j (omega (arith, length-set mark i (k + 1)))))
+        (λ (e : j ≡ i → ⊥). rw (get_or-set_other mark i j (k + 1) 0 e) (v.most j (omega (arith, length-set mark i (k + 1)))))
         (eq-or-ne j i)
 
 -- ---- the walk from a row, with the list `older` before it

@@ -6,7 +6,7 @@ use Prim.Native.Nat.{ℕ, ◌+◌, ◌-◌, ◌≤◌, ◌<◌}
 use native.Mathlib.Omega.{arith}
 use lib.Ieee.{Float}
 use lib.ListN.{length, get_or, set, length-set, length-append, get_or-append}
-use lib.Seq.{ext_get_or, get_or-set_same, get_or_set_other, get_or_at}
+use lib.Seq.{ext_get_or, get_or-set_same, get_or-set_other, get_or_at}
 use Rattle.lists.specs.Parts.{part}
 use Rattle.lists.proofs.Bools.{eq-or-ne, le-or-lt}
 use Rattle.lists.proofs.Pushing.{part-push, part_apart}
@@ -43,8 +43,8 @@ module _ (k j e : ℕ) (lp next : List ℕ) (lx : List Float) (t : Float) (h : j
           ∙ ⊎_elim
           (λ (q : i ≡ j). rw q (same ∙ sym (get_or-set_same (held k lp next lx) j pushed [] (omega (arith, length-held k lp next lx)))))
           (λ (q : i ≡ j → ⊥).
-          rw (get_or_set_other next j i (e + 1) 0 q)
-          (part_apart (get_or lp i 0) (get_or next i 0) e lx t (apart i m q) ∙ sym (get_or_set_other (held k lp next lx) j i pushed [] q ∙ held_at k lp next lx i m)))
+          rw (get_or-set_other next j i (e + 1) 0 q)
+          (part_apart (get_or lp i 0) (get_or next i 0) e lx t (apart i m q) ∙ sym (get_or-set_other (held k lp next lx) j i pushed [] q ∙ held_at k lp next lx i m)))
           (eq-or-ne i j)
 
 -- one more column, of one value
@@ -65,6 +65,6 @@ module _ (k s : ℕ) (lp next : List ℕ) (lx : List Float) (d : Float) (n : k <
           ⊎_elim
           (λ (q : k ≤ i). let z : i ≡ k = omega arith in rw z (last ∙ sym (get_or_at (held k lp next lx) (d ∷ []) [] [] k (length-held k lp next lx))))
           (λ (q : i < k).
-          rw (get_or_set_other next k i (s + 1) 0 (λ z. omega arith))
+          rw (get_or-set_other next k i (s + 1) 0 (λ z. omega arith))
           (part_apart (get_or lp i 0) (get_or next i 0) s lx d (inl (apart i q)) ∙ sym (get_or-append (held k lp next lx) ((d ∷ []) ∷ []) [] i (omega (arith, length-held k lp next lx)) ∙ held_at k lp next lx i q)))
           (le-or-lt k i)

@@ -8,7 +8,7 @@ use native.Mathlib.Omega.{arith}
 use lib.Dec.{leb}
 use lib.Ieee.{Float, nan}
 use lib.ListN.{length, get_or, set, drop, length-set, length-drop}
-use lib.Seq.{get_or-drop, get_or_set_other}
+use lib.Seq.{get_or-drop, get_or-set_other}
 use borrow.Author.Tests.{le-leb, lt-leb}
 use Rattle.lists.specs.Calls.{none}
 use Rattle.lists.specs.Folds.{over}
@@ -82,7 +82,7 @@ put_other k (r ∷ rows) [] x i h = refl
 put_other k (r ∷ rows) (v ∷ vals) x i h =
     put_other k rows vals (put_at k r v x) i (λ z l. h (suc z) (omega arith))
     ∙ ⊎_elim
-    (λ (g : r ≤ k). ap (λ (y : List Float). get_or y i nan) (sym (put-set k r v x g)) ∙ get_or_set_other x r i v nan (λ (e : i ≡ r). h 0 (omega arith) (sym e) (omega arith)))
+    (λ (g : r ≤ k). ap (λ (y : List Float). get_or y i nan) (sym (put-set k r v x g)) ∙ get_or-set_other x r i v nan (λ (e : i ≡ r). h 0 (omega arith) (sym e) (omega arith)))
     (λ (g : k < r). ap (λ (y : List Float). get_or y i nan) (put_past k r v x g))
     (le-or-lt r k)
 

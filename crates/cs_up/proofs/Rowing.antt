@@ -10,7 +10,7 @@ use native.Mathlib.Omega.{arith}
 use lib.Dec.{ltb}
 use lib.Ieee.{Float, nan, binary64, sub, mul, div}
 use lib.ListN.{length, get_or, set, drop, replicate, length-set, length-replicate, get_or-replicate}
-use lib.Seq.{ext_get_or, get_or-set_same, get_or_set_other}
+use lib.Seq.{ext_get_or, get_or-set_same, get_or-set_other}
 use borrow.Author.Tests.{lt-ltb, le-ltb}
 use Rattle.lists.specs.Calls.{none}
 use Rattle.lists.specs.Entries.{Entries}
@@ -263,13 +263,13 @@ module _ {k : ℕ} {u lp li : List ℕ} {lx₀ : List Float} {next₀ : List ℕ
           next_long = length-set next j (e + 1) ∙ w.next_long;
           x_long = length_taken t (part (s + 1) e li) (part (s + 1) e lx) (set x j none) ∙ length-set x j none ∙ w.x_long;
           rest = along-turn (step k lp li) u 0 w.rest h (row_is ∙ (rw (← f, lt-ltb j k g)));
-          todo = λ i l m. rw (get_or_set_other next j i (e + 1) 0 (other m)) (w.todo i l (later m));
-          done = λ i l o. ⊎_elim (λ (z : i ≡ j). rw z cut_now) (λ (z : i ≡ j → ⊥). rw (get_or_set_other next j i (e + 1) 0 z) (w.done i l (not_now z o))) (eq-or-ne i j);
+          todo = λ i l m. rw (get_or-set_other next j i (e + 1) 0 (other m)) (w.todo i l (later m));
+          done = λ i l o. ⊎_elim (λ (z : i ≡ j). rw z cut_now) (λ (z : i ≡ j → ⊥). rw (get_or-set_other next j i (e + 1) 0 z) (w.done i l (not_now z o))) (eq-or-ne i j);
           zero = λ i l o.
               taken_other t (part (s + 1) e li) (part (s + 1) e lx) (set x j none) i (not_taken i o)
               ∙ ⊎_elim
               (λ (z : i ≡ j). rw z (get_or-set_same x j none nan row_reads.here))
-              (λ (z : i ≡ j → ⊥). get_or_set_other x j i none nan z ∙ w.zero i l (λ p. not_now z (o p)))
+              (λ (z : i ≡ j → ⊥). get_or-set_other x j i none nan z ∙ w.zero i l (λ p. not_now z (o p)))
               (eq-or-ne i j);
         }
           where

@@ -6,7 +6,7 @@ use Prim.Native.Nat.{ℕ, suc, ◌+◌, ◌-◌, ◌≤◌, ◌<◌}
 use native.Mathlib.Omega.{arith}
 use lib.Ieee.{Float, nan, binary64, sub, mul}
 use lib.ListN.{length, get_or, set, take, length-set}
-use lib.Seq.{get_or_set_other}
+use lib.Seq.{get_or-set_other}
 use borrow.Author.Tests.{lt-ltb, le-ltb, eq-eqb}
 use Rattle.lists.specs.Entries.{Entries}
 use Rattle.lists.specs.Folds.{over}
@@ -41,7 +41,7 @@ length_taken t rows vals x = over-keeps length (take_at t) rows vals (λ r v s m
 -- at a row that is not taken
 pub taken_other : (t : Float) (rows : List ℕ) (vals x : List Float) (i : ℕ) → ((z : ℕ) → z < length rows → get_or rows z 0 ≡ i → ⊥) → get_or (over (take_at t) rows vals x) i nan ≡ get_or x i nan
 unfolding take_at
-taken_other t rows vals x i h = over_other nan (take_at t) i (λ z v s n. get_or_set_other s z i _ nan n) rows vals h x
+taken_other t rows vals x i h = over_other nan (take_at t) i (λ z v s n. get_or-set_other s z i _ nan n) rows vals h x
 
 -- ---- the definition's tests
 module _ (j k : ℕ) (t : Float) where

@@ -11,7 +11,7 @@ use native.Mathlib.Omega.{arith}
 use lib.Dec.{ltb}
 use lib.Ieee.{Float, nan, of_bits, lt}
 use lib.ListN.{length, get_or, set, length-set, get_or-replicate}
-use lib.Seq.{get_or-set_same, get_or_set_other}
+use lib.Seq.{get_or-set_same, get_or-set_other}
 use borrow.Author.Tests.{ltb-true}
 use Rattle.lists.specs.Calls.{none}
 use Rattle.lists.specs.Folds.{along, over}
@@ -130,7 +130,7 @@ module _ {n k : ℕ} {p i : List ℕ} {v : List Float} {up ui lp li : List ℕ} 
         zero = λ j h o. rw e (⊎_elim
             (λ (q : j ≡ k). rw q (get_or-set_same (over (put_at k) rows vals x) k none nan (omega (arith, long, R.x_long))))
             (λ (q : j ≡ k → ⊥).
-            get_or_set_other (over (put_at k) rows vals x) k j none nan q
+            get_or-set_other (over (put_at k) rows vals x) k j none nan q
             ∙ unput j h (λ m. let u = upward S m in o (omega (arith, q)) (rw (upper-part y z) m)))
             (eq-or-ne j k));
       }
@@ -265,7 +265,7 @@ module _ {n k : ℕ} {p i : List ℕ} {v : List Float} {up ui lp li : List ℕ} 
 
         pub stands_more : Stands (k + 1) (k + 1) lp li (set next1 k (lo + 1))
         stands_more = record {
-          cut = λ j h. or j h (λ b. rw (get_or_set_other next1 k j (lo + 1) 0 (λ e. omega arith)) (w.rowed.stands.cut j b)) (λ e. rw (e, get_or-set_same next1 k (lo + 1) 0 column_closes.in_next) own_cut);
+          cut = λ j h. or j h (λ b. rw (get_or-set_other next1 k j (lo + 1) 0 (λ e. omega arith)) (w.rowed.stands.cut j b)) (λ e. rw (e, get_or-set_same next1 k (lo + 1) 0 column_closes.in_next) own_cut);
           some = λ j h. or j h (w.rowed.stands.some j) (λ e. rw e starts.0);
           first = λ j h. or j h (w.rowed.stands.first j) (λ e. rw e starts.1);
         }

@@ -5,7 +5,7 @@ use Prim.Native.Nat.{ℕ, ◌+◌, ◌*◌, ◌≤◌, ◌<◌}
 use native.Mathlib.Omega.{arith}
 use lib.Ieee.{Float, binary64, to_bits}
 use lib.ListN.{length, get_or, take, drop, length-append}
-use lib.Seq.{sets, sets_eq, length-sets, length-take-le, take_at, drop_at}
+use lib.Seq.{sets, sets-eq, length-sets, length-take-le, take_at, drop_at}
 use Rattle.lists.proofs.Fronts.{drop_further}
 use Rattle.lists.proofs.Parts.{left_at, left-none}
 use Rattle.little.specs.Little.{bytes}
@@ -29,7 +29,7 @@ number_put k x at e {old = old} h l s =
     let b = length-bytes k x in
     let n : length w ≡ e = omega (arith, length-append (take at old) (bytes k x), length-take-le at old (omega arith)) in
     let r : at + length (bytes k x) ≡ e = omega arith in
-    let t = s ∙ sets_eq (bytes k x) old at (omega arith) ∙ ap (λ (j : ℕ). w ++ drop j old) r in
+    let t = s ∙ sets-eq (bytes k x) old at (omega arith) ∙ ap (λ (j : ℕ). w ++ drop j old) r in
     record {
       end = omega arith;
       front = ap (take e) t ∙ take_at w (drop e old) e n;

@@ -6,7 +6,7 @@ use Prim.Native.Nat.{ℕ, zero, suc, ◌+◌, ◌-◌, ◌%◌, ◌/◌, ◌≤�
 use native.Mathlib.Numerals.{add-one}
 use native.Mathlib.Omega.{arith}
 use lib.ListN.{length, set, length-set, drop_of_length-le}
-use lib.Seq.{sets, sets_eq, set_out}
+use lib.Seq.{sets, sets-eq, set_out}
 use Rattle.little.specs.Little.{bytes}
 
 pub length-bytes : (k x : ℕ) → length (bytes k x) ≡ k
@@ -19,7 +19,7 @@ pub all-put : (k x : ℕ) (old : List ℕ) → length old ≡ k → sets old 0 (
 all-put k x old h =
     let n = length-bytes k x in
     let e : length old ≤ 0 + length (bytes k x) = omega arith in
-    sets_eq (bytes k x) old 0 (omega arith)
+    sets-eq (bytes k x) old 0 (omega arith)
     ∙ ap (λ (l : List ℕ). bytes k x ++ l) (drop_of_length-le old e)
     ∙ append-nil (bytes k x)
 
