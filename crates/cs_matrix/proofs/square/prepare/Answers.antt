@@ -12,32 +12,8 @@ returns-then-refused-ne0 c = prepare_refused _ _ c.check_square-refused.ensures 
 pub overflow_add-need : goal.overflow_add-need
 overflow_add-need c = omega (arith, larger_small _ (scratch [] [] [] []) c.check_square-refused.ensures c.if-refused-ne0.false c.larger-need.ensures)
 
-pub shape_of-w1-then-too_narrow : goal.shape_of-w1-then-too_narrow
-shape_of-w1-then-too_narrow c = refl
-
-pub shape_of-w2-then-too_narrow : goal.shape_of-w2-then-too_narrow
-shape_of-w2-then-too_narrow c = refl
-
-pub shape_of-w3-then-too_narrow : goal.shape_of-w3-then-too_narrow
-shape_of-w3-then-too_narrow c = refl
-
-pub shape_of-x-then-too_narrow : goal.shape_of-x-then-too_narrow
-shape_of-x-then-too_narrow c = refl
-
 pub returns-then-too_narrow : goal.returns-then-too_narrow
 returns-then-too_narrow c = prepare_6 _ _ c.check_square-refused.ensures c.if-refused-ne0.false c.larger-need.ensures c.too_narrow.ensures c.if-too_narrow.true
-
-pub shape_of-w1 : goal.shape_of-w1
-shape_of-w1 c = c.clear_scratch.auto.1.0
-
-pub shape_of-w2 : goal.shape_of-w2
-shape_of-w2 c = c.clear_scratch.auto.1.1.0
-
-pub shape_of-w3 : goal.shape_of-w3
-shape_of-w3 c = c.clear_scratch.auto.1.1.1.0
-
-pub shape_of-x : goal.shape_of-x
-shape_of-x c = c.clear_scratch.auto.1.1.1.1.0
 
 pub returns : goal.returns
 returns c = prepare_0 _ _ c.check_square-refused.ensures c.if-refused-ne0.false c.larger-need.ensures c.too_narrow.ensures c.if-too_narrow.false c.clear_scratch.ensures
