@@ -1,7 +1,7 @@
 -- A finite value counted in smallest values, 2 ^ -1074, and the root of a value by its count. Assumes nothing.
 use mathlib.Core.Path.{◌≡◌, refl, sym, ap, ◌∙◌, subst}
 use Prim.Native.Nat.{ℕ, zero, suc, ◌+◌, ◌-◌, ◌*◌, ◌/◌, ◌%◌, ◌^◌, ◌≤◌, ◌<◌}
-use native.Mathlib.Nat.{lt_irrefl, lt_of_le_of_lt, le_antisymm, zero-mul, mul-one, mul_assoc, mul_comm, mul_right_comm, mul-le-mul_right, le_of_mul-le-mul_right, lt_of_mul_lt-mul_right, mul-lt_mul_of_pos_right, mul-pos, mul-div_cancel}
+use native.Mathlib.Nat.{lt_irrefl, lt_of_le_of_lt, le_antisymm, zero-mul, mul-one, mul_assoc, mul_comm, mul_right_comm, mul-le-mul_right, le_of_mul-le-mul_right, lt_of_mul-lt-mul_right, mul-lt-mul_of_pos_right, mul-pos, mul-div_cancel}
 use native.Mathlib.Omega.{arith}
 use mathlib.Core.Bool.{Bool, true, false, cond, ◌&&◌, true≢false}
 use lib.IntN.{ℤ, pos, negsuc}
@@ -85,9 +85,9 @@ count-lt (inf s) h p = absurd p
 count-lt (fin true m e) h p = absurd p
 count-lt (fin false zero e) h p = absurd p
 count-lt (fin false (suc m) e) h p =
-    lt_of_mul_lt-mul_right (down e)
+    lt_of_mul-lt-mul_right (down e)
     (subst (λ (v : ℕ). v < 2 ^ 2098 * down e) (value (fin false (suc m) e) h p).1
-    (subst (λ (v : ℕ). suc m * up e * 2 ^ 1074 < v) (mul_right_comm (2 ^ 1024) (down e) (2 ^ 1074)) (mul-lt_mul_of_pos_right {k = 2 ^ 1074} (bounds false m e h).2 (pow_pos 1074))))
+    (subst (λ (v : ℕ). suc m * up e * 2 ^ 1074 < v) (mul_right_comm (2 ^ 1024) (down e) (2 ^ 1074)) (mul-lt-mul_of_pos_right {k = 2 ^ 1074} (bounds false m e h).2 (pow_pos 1074))))
 
 -- ---- the root of a value by its count
 
@@ -151,7 +151,7 @@ module _ (n i M : ℕ) (t : Scaled n i M) where
   least = le_of_mul-le-mul_right {k = 2 ^ i} (subst (λ (v : ℕ). 2 ^ 52 * 2 ^ i ≤ v) t.is (subst (λ (v : ℕ). v ≤ n * 2 ^ 52) (mul_comm (2 ^ i) (2 ^ 52)) (mul-le-mul_right (2 ^ 52) t.low))) (pow_pos i)
 
   pub most : M < 2 ^ 53
-  most = lt_of_mul_lt-mul_right (2 ^ i) (subst (λ (v : ℕ). v < 2 ^ 53 * 2 ^ i) t.is (subst (λ (v : ℕ). n * 2 ^ 52 < v) (shift 1 (suc i) 52 53 i (omega arith)) (omega (arith, t.high))))
+  most = lt_of_mul-lt-mul_right (2 ^ i) (subst (λ (v : ℕ). v < 2 ^ 53 * 2 ^ i) t.is (subst (λ (v : ℕ). n * 2 ^ 52 < v) (shift 1 (suc i) 52 53 i (omega arith)) (omega (arith, t.high))))
 
   place : size n - 1 ≡ i
   place = omega (arith, size_exact i n t.low t.high)

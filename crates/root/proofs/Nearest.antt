@@ -3,7 +3,7 @@
 use mathlib.Core.Path.{◌≡◌, refl, sym, ap, ◌∙◌, subst}
 use mathlib.Core.Logic.{◌⊎◌, inl, inr}
 use Prim.Native.Nat.{ℕ, zero, suc, ◌+◌, ◌-◌, ◌*◌, ◌/◌, ◌%◌, ◌^◌, ◌≤◌, ◌<◌}
-use native.Mathlib.Nat.{lt_of_not-le, lt_irrefl, lt_of_lt_of_le, lt_of_le_of_lt, le_antisymm, eq-or-lt_of_le, add-mul, mul-add, mul-one, mul_assoc, mul-mul_mul_comm, mul-pos, mul-le-mul, mul-le-mul_right, mul-lt_mul_of_pos_right, lt_of_mul_lt-mul_right, pow-suc}
+use native.Mathlib.Nat.{lt_of_not-le, lt_irrefl, lt_of_lt_of_le, lt_of_le_of_lt, le_antisymm, eq-or-lt_of_le, add-mul, mul-add, mul-one, mul_assoc, mul-mul-mul_comm, mul-pos, mul-le-mul, mul-le-mul_right, mul-lt-mul_of_pos_right, lt_of_mul-lt-mul_right, pow-suc}
 use native.Mathlib.Omega.{arith}
 use mathlib.Core.Bool.{Bool, true, false, cond}
 use lib.Dec.{T, leb}
@@ -24,7 +24,7 @@ pub sq_suc : (r : ℕ) → (r + 1) * (r + 1) ≡ r * r + 2 * r + 1
 sq_suc r = omega (arith, add-mul r 1 (r + 1), mul-add r r 1)
 
 sq_dbl : (r : ℕ) → 2 * r * (2 * r) ≡ 4 * (r * r)
-sq_dbl r = mul-mul_mul_comm 2 r 2 r
+sq_dbl r = mul-mul-mul_comm 2 r 2 r
 
 sq_above : (a : ℕ) → (2 * a + 1) * (2 * a + 1) ≡ 4 * (a * a) + 4 * a + 1
 sq_above a = omega (arith, sq_suc (2 * a), sq_dbl a)
@@ -128,7 +128,7 @@ wide n i M t = (omega (arith, least n i M t, once-or-twice M (i % 2) (omega arit
 
 four_is : (k : ℕ) → 4 ^ k ≡ 2 ^ k * 2 ^ k
 four_is zero = refl
-four_is (suc k) = pow-suc 4 k ∙ ap (λ (v : ℕ). v * 4) (four_is k) ∙ sym (mul-mul_mul_comm (2 ^ k) 2 (2 ^ k) 2) ∙ ap (λ (v : ℕ). v * v) (sym (pow-suc 2 k))
+four_is (suc k) = pow-suc 4 k ∙ ap (λ (v : ℕ). v * 4) (four_is k) ∙ sym (mul-mul-mul_comm (2 ^ k) 2 (2 ^ k) 2) ∙ ap (λ (v : ℕ). v * v) (sym (pow-suc 2 k))
 
 -- n · 2^1074 = m · 4^k
 input_is : (n i M : ℕ) → n * 2 ^ 52 ≡ M * 2 ^ i → n * 2 ^ 1074 ≡ under_root M i * 4 ^ (i / 2 + 485)
@@ -188,7 +188,7 @@ module _ (a d j k : ℕ) (l : 2 ^ 52 ≤ a) (h : d < 2 ^ 53) where
       go : (t : Bool) → leb k j ≡ t → a * 2 ^ k + 2 ^ k ≤ d * 2 ^ j
       go true e =
           let p = at_place d j k (leb-true k j e) in
-          let c : a < d * 2 ^ (j - k) = lt_of_mul_lt-mul_right (2 ^ k) (subst (λ (v : ℕ). a * 2 ^ k < v) p g) in
+          let c : a < d * 2 ^ (j - k) = lt_of_mul-lt-mul_right (2 ^ k) (subst (λ (v : ℕ). a * 2 ^ k < v) p g) in
           omega (arith, p, add-mul a 1 (2 ^ k), mul-le-mul_right {m = a + 1} {n = d * 2 ^ (j - k)} (2 ^ k) (omega arith))
       go false e = absurd (lt_irrefl (a * 2 ^ k) (omega (arith, a_lower, lower d j k h (leb-false k j e))))
 
@@ -198,7 +198,7 @@ module _ (a d j k : ℕ) (l : 2 ^ 52 ≤ a) (h : d < 2 ^ 53) where
       go : (t : Bool) → leb k j ≡ t → (2 ^ 52 ≡ a) ⊎ (2 ^ 52 < a) → (d * 2 ^ j + 2 ^ k ≤ a * 2 ^ k) ⊎ (2 ^ 52 ≡ a)
       go true e o =
           let p = at_place d j k (leb-true k j e) in
-          let c : d * 2 ^ (j - k) < a = lt_of_mul_lt-mul_right (2 ^ k) (subst (λ (v : ℕ). v < a * 2 ^ k) p g) in
+          let c : d * 2 ^ (j - k) < a = lt_of_mul-lt-mul_right (2 ^ k) (subst (λ (v : ℕ). v < a * 2 ^ k) p g) in
           inl (omega (arith, p, add-mul (d * 2 ^ (j - k)) 1 (2 ^ k), mul-le-mul_right {m = d * 2 ^ (j - k) + 1} {n = a} (2 ^ k) (omega arith)))
       go false e (inl o) = inr o
       go false e (inr o) = inl (omega (arith, lower d j k h (leb-false k j e), add-mul (2 ^ 52) 1 (2 ^ k), mul-le-mul_right {m = 2 ^ 52 + 1} {n = a} (2 ^ k) (omega arith)))
@@ -211,9 +211,9 @@ module _ (m a P y : ℕ) (p : 0 < P) (n : Near m a) where
       omega (
         arith,
         mul-le-mul {n₁ = (2 * a + 1) * P} {m₁ = (2 * a + 1) * P} {n₂ = a * P + y} {m₂ = a * P + y} (omega arith) (omega arith),
-        mul-mul_mul_comm (2 * a + 1) P (2 * a + 1) P,
+        mul-mul-mul_comm (2 * a + 1) P (2 * a + 1) P,
         mul_assoc 4 m (P * P),
-        mul-lt_mul_of_pos_right {k = P * P} n.under (mul-pos p p),
+        mul-lt-mul_of_pos_right {k = P * P} n.under (mul-pos p p),
       )
 
   halfway_below : 0 < a → y + P ≤ a * P → (a * P + y) * (a * P + y) < 4 * (m * (P * P))
@@ -223,9 +223,9 @@ module _ (m a P y : ℕ) (p : 0 < P) (n : Near m a) where
       omega (
         arith,
         mul-le-mul {n₁ = a * P + y} {m₁ = a * P + y} {n₂ = (2 * a - 1) * P} {m₂ = (2 * a - 1) * P} (omega arith) (omega arith),
-        mul-mul_mul_comm (2 * a - 1) P (2 * a - 1) P,
+        mul-mul-mul_comm (2 * a - 1) P (2 * a - 1) P,
         mul_assoc 4 m (P * P),
-        mul-lt_mul_of_pos_right {k = P * P} n.over (mul-pos p p),
+        mul-lt-mul_of_pos_right {k = P * P} n.over (mul-pos p p),
       )
 
 -- where a is the least significand the values below it stand closer, but then a · a is at most m
@@ -236,7 +236,7 @@ least_below m a P y h l =
       sq_suc (a * P + y),
       mul-le-mul {n₁ = a * P + y + 1} {m₁ = a * P + y + 1} {n₂ = 2 * (a * P)} {m₂ = 2 * (a * P)} (omega arith) (omega arith),
       sq_dbl (a * P),
-      mul-mul_mul_comm a P a P,
+      mul-mul-mul_comm a P a P,
       mul-le-mul_right (P * P) h,
     )
 

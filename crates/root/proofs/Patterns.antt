@@ -13,7 +13,7 @@ use lib.Ieee.Exact.{odd_sign}
 use lib.Ieee.Fits.{odd-fits, nan-fits, inf-fits}
 use lib.Ieee.Positive.{positive}
 use borrow.Author.Tests.{leb-true, leb-false, lt-leb, le-leb, ne_eqb, le-ltb, lt-ltb}
-use Rattle.float_bits.proofs.Nans.{is_nan}
+use Rattle.float_bits.proofs.Nans.{is_nan_lem}
 use Rattle.root.specs.Root.{rounded, positive_root, root_of, root_bits}
 use Rattle.root.specs.Nearest.{Nearest, Patterns}
 use Rattle.float_bits.proofs.Powers.{pow-back}
@@ -119,7 +119,7 @@ none b e = sym (root-bits-is b ∙ ap (to_bits binary64) e ∙ nan_bits)
 pub nan_none : (b : ℕ) → 0x7FF0_0000_0000_0000 < b % 0x8000_0000_0000_0000 → 0x7FF8_0000_0000_0000 ≡ root_bits b
 nan_none b h =
     none b
-    (ap root_of (is_nan (of_bits binary64 b) (sym (nan_bits_is binary64 b) ∙ nan_bits_above binary64 b ∙ lt-ltb 0x7FF0_0000_0000_0000 (b % 0x8000_0000_0000_0000) h)) ∙ no_root)
+    (ap root_of (is_nan_lem (of_bits binary64 b) (sym (nan_bits_is binary64 b) ∙ nan_bits_above binary64 b ∙ lt-ltb 0x7FF0_0000_0000_0000 (b % 0x8000_0000_0000_0000) h)) ∙ no_root)
 
 negative_top : (t : Bool) → root_of (cond t (inf true) nan) ≡ nan
 unfolding root_of

@@ -1,7 +1,7 @@
 -- What a turn of `whole_root` keeps, and the root that it has found after the last. Assumes nothing.
 use mathlib.Core.Path.{◌≡◌, sym, ◌∙◌, subst}
 use Prim.Native.Nat.{ℕ, ◌+◌, ◌-◌, ◌*◌, ◌/◌, ◌%◌, ◌^◌, ◌≤◌, ◌<◌}
-use native.Mathlib.Nat.{mul-mul_mul_comm, mul_comm, mul_assoc, pow-suc}
+use native.Mathlib.Nat.{mul-mul-mul_comm, mul_comm, mul_assoc, pow-suc}
 use native.Mathlib.Numerals.{add-one}
 use native.Mathlib.Omega.{arith}
 use lib.Pow.{pow_mono}
@@ -29,7 +29,7 @@ two : (i : ℕ) → 2 ^ (i + 1) ≡ 2 * 2 ^ i
 two i = rw (add-one, pow-suc) (mul_comm (2 ^ i) 2)
 
 sq_twice : (r : ℕ) → r * 2 * (r * 2) ≡ 4 * (r * r)
-sq_twice r = mul-mul_mul_comm r 2 r 2 ∙ mul_comm (r * r) 4
+sq_twice r = mul-mul-mul_comm r 2 r 2 ∙ mul_comm (r * r) 4
 
 module _ {a left rem root i : ℕ} (t : Turn a left rem root i) (l : i < 27) where
   pub fewer : root * 4 + 1 ≤ rem * 4 + left / 2 ^ 52 → Turn a (left % 2 ^ 52 * 4) (rem * 4 + left / 2 ^ 52 - (root * 4 + 1)) (root * 2 + 1) (i + 1)

@@ -2,7 +2,7 @@
 use mathlib.Core.Path.{◌≡◌, refl, ap, sym, ◌∙◌}
 use mathlib.Core.Bool.{Bool, true, false}
 use Prim.Native.Nat.{ℕ, ◌+◌, ◌-◌, ◌*◌, ◌/◌, ◌%◌, ◌^◌, ◌≤◌, ◌<◌}
-use native.Mathlib.Nat.{add-mul, mul-add, mul_comm, mul_assoc, mul-mul_mul_comm, mul-le-mul, le_of_mul-le-mul_right, div-add-mod', mod-lt}
+use native.Mathlib.Nat.{add-mul, mul-add, mul_comm, mul_assoc, mul-mul-mul_comm, mul-le-mul, le_of_mul-le-mul_right, div-add-mod', mod-lt}
 use native.Mathlib.Omega.{arith}
 use lib.Dec.{leb}
 use borrow.Author.Tests.{le-leb, lt-leb, leb-true, leb-false}
@@ -72,7 +72,7 @@ module _ {a s : ℕ} (low : 2 ^ 52 ≤ a) (high : a + 2 ≤ 2 ^ 54) (l : Largest
 
   -- a · 2^52 is the square of root, and what is left over q·q
   sides : a * 2 ^ 52 + q * q ≡ root * root + left
-  sides = omega (arith, sq_sum (s * 2 ^ 26) q, mul-mul_mul_comm s (2 ^ 26) s (2 ^ 26), mul_assoc q s (2 ^ 26), divides, l.square)
+  sides = omega (arith, sq_sum (s * 2 ^ 26) q, mul-mul-mul_comm s (2 ^ 26) s (2 ^ 26), mul_assoc q s (2 ^ 26), divides, l.square)
 
   found : q * q ≤ left → Largest (a * 2 ^ 52) root
   found h = is_largest (omega (arith, sides)) (omega (arith, sides, sq_suc root, rest-less))
