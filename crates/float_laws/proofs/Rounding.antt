@@ -7,7 +7,7 @@ use native.Mathlib.Omega.{arith}
 use lib.Dec.{T, leb, ltb, eqb, leb→le, ltb→lt, eqb→eq}
 use lib.IntN.{ℤ, pos, negsuc}
 use lib.Pow.{pow_pos, pow_mono, pow-add, shl_lt}
-use lib.Ieee.{Float, fin, binary64, up, down, round, fits}
+use lib.Ieee.{Float, nan, inf, fin, binary64, up, down, round, fits}
 use lib.Ieee.Exact.{HasValue, round_exact}
 use lib.Ieee.Fits.{and_l, and_r, round-fits, down_pos, up_pos}
 use Rattle.float_bits.proofs.Powers.{pow_le_back}
@@ -95,6 +95,8 @@ value s m (negsuc k) f = round_exact binary64 s (suc m * 1) (2 ^ suc k) (suc m) 
 
 -- of a value and a fraction of the same size
 equal : (m : ℕ) (e : ℤ) → Fits m e → (r : Float) (s : Bool) → T (fits binary64 r) → HasValue r s (suc m * up e) (down e) → r ≡ fin s (suc m) e
+equal m e f nan s p v = elim v [ ]
+equal m e f (inf _) s p v = elim v [ ]
 equal m e f (fin t zero g) s p v = absurd (nothing (suc m * up e * down g) (mul-pos (mul-pos (zero-lt-suc m) (up_pos e)) (down_pos g)) (sym v.1 ∙ ap (λ (x : ℕ). x * down e) (zero-mul (up g)) ∙ zero-mul (down e)))
   where
     nothing : (a : ℕ) → 0 < a → a ≡ 0 → ⊥
