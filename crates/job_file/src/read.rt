@@ -9,7 +9,7 @@ use crate::keep::keep;
 use crate::record::{record_at, size_of};
 
 // What has been read so far, beside the arrays.
-#[derive(Drop)]
+#[derive(Clone, Copy)]
 pub struct Head {
     // 0 before SZ, 1 after it, 2 after GO
     pub stage: u32,
@@ -24,7 +24,7 @@ pub struct Head {
 }
 
 // The number, 0 for a sound file, and what was read before the faulty record.
-#[derive(Drop)]
+#[derive(Clone, Copy)]
 pub struct Answer {
     pub number: u32,
     pub head: Head,

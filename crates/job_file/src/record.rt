@@ -14,7 +14,7 @@ const RH: u32 = 0x4852;
 
 const GO: u32 = 0x4F47;
 
-#[derive(Drop)]
+#[derive(Clone, Copy)]
 pub enum Found {
     Size { n: u32, count: u32 },
     Entry { row: u32, column: u32, bits: u64 },

@@ -5,6 +5,7 @@ use Rattle.cs_tree.proofs.Past.{backing_past}
 use Rattle.cs_tree.proofs.Backward.{backing_start, backing_turn, backing_done}
 use Rattle.lists.proofs.Laying.{part_long}
 use Rattle.cs_pattern.proofs.quick.read_column.Goals as goal
+use Rattle.cs_pattern.proofs.quick.read_column.Goals.{else-loop-q-test, then-loop-q-test+then-row-k}
 
 pub loop-q-init : goal.loop-q-init
 loop-q-init c = backing_start _ _ c.requires.0 c.requires.1
@@ -22,9 +23,9 @@ pub loop-q-preserved : goal.loop-q-preserved
 loop-q-preserved c = backing_turn c.loop-q.invariant c.loop-q-test.true c.read_row-next.auto.mark c.read_row-next.ensures.0 c.if-next-top.false
 
 pub returns : goal.returns
-returns c = ⊎_elim
-    (λ w. (λ z. backing_done c.loop-q.invariant w.left (eqb-true _ _ z), λ e. backing_none c.loop-q.invariant e w.left))
-    (λ w.
-    let v = backing_past c.loop-q.invariant c.requires.3 w.2.taken in
-    (λ z. backing_done v (omega arith) (eqb-true _ _ z), λ e. backing_none v e (omega arith)))
-    c.loop-q-test.branch
+returns c = elim c.loop-q-test.branch [
+        else-loop-q-test w ↦
+        (λ z. backing_done c.loop-q.invariant w.loop-q-test.false (eqb-true _ _ z), λ e. backing_none c.loop-q.invariant e w.loop-q-test.false)
+      | then-loop-q-test+then-row-k w ↦
+        let v = backing_past c.loop-q.invariant c.requires.3 w.if-row-k.true in
+        (λ z. backing_done v (omega arith) (eqb-true _ _ z), λ e. backing_none v e (omega arith)) ]
