@@ -3,6 +3,7 @@ use mathlib.Core.Logic.{⊎_elim}
 use native.Mathlib.Omega.{arith}
 use Rattle.cs_left.proofs.Crossing.{adding_start, adding_here, adding_turn, adding_pass, adding_end, crossing_order, crossing_li, crossing_lx, crossing_place, crossing_fits, crossing_asks}
 use Rattle.cs_left.proofs.column.add_columns.Goals as goal
+use Rattle.cs_left.proofs.column.add_columns.Goals.{else-j-k, then-j-k}
 
 pub loop-q-init : goal.loop-q-init
 loop-q-init c = adding_start c.requires
@@ -50,7 +51,7 @@ pub loop-q-smaller : goal.loop-q-smaller
 loop-q-smaller c = omega (arith, c.loop-q-test.true)
 
 pub loop-q-preserved : goal.loop-q-preserved
-loop-q-preserved c = ?
+loop-q-preserved c = let w = c.loop-q.invariant in let g = c.loop-q-test.true in let e = c.wide-j.ensures.0 in elim c.if-j-k.branch [ then-j-k t ↦ rw (t.next-is, t.x-is) (adding_turn w g e t.if-j-k.true t.wide-s.ensures.0 t.wide-e.ensures.0 t.scatter_add.auto.x t.scatter_add.ensures) | else-j-k u ↦ rw (u.next-is, u.x-is) (adding_pass w g e u.if-j-k.false) ]
 
 pub shape_of-next : goal.shape_of-next
 shape_of-next c = c.loop-q.invariant.next_long

@@ -31,4 +31,4 @@ pub overflow_add-ncols : goal.overflow_add-ncols
 overflow_add-ncols c = omega (arith, (way_served _ _ _ _ _ _ _ _ _ _ c.args.lx.now _ _ _ _ c.judge-number.ensures c.if-number-ne0.false).valid.pattern.cols)
 
 pub returns : goal.returns
-returns c = way-done _ _ _ _ _ _ _ _ _ _ c.args.lx.now _ _ _ _ c.judge-number.ensures c.if-number-ne0.false c.strays.ensures c.if-strays.false c.work-answer.ensures c.work-answer.new.1.1.1.1.1.1.1.1.1.0 c.work-answer.new.1.1.1.1.1.1.1.1.1.1.0 c.work-answer.auto.1.1.1.1.1.1.1.1.1.0 c.work-answer.auto.1.1.1.1.1.1.1.1.1.1.0 c.clear_scratch.ensures
+returns c = way-done _ _ _ _ _ _ _ _ _ _ c.args.lx.now _ _ _ _ c.judge-number.ensures c.if-number-ne0.false c.strays.ensures c.if-strays.false c.work-answer.ensures c.work-answer.new.next c.work-answer.new.x c.work-answer.auto.next c.work-answer.auto.x c.clear_scratch.ensures

@@ -46,10 +46,10 @@ pub slice_bounds-add_columns-end : goal.slice_bounds-add_columns-end
 slice_bounds-add_columns-end c = within_inside c.requires.listed c.wide-b.ensures.0 c.wide-f.ensures.0
 
 pub add_columns-requires : goal.add_columns-requires
-add_columns-requires c = gather_adds c.requires c.wide-a.ensures.0 c.wide-e.ensures.0 c.wide-b.ensures.0 c.wide-f.ensures.0 c.load.auto.1.1.1.0
+add_columns-requires c = gather_adds c.requires c.wide-a.ensures.0 c.wide-e.ensures.0 c.wide-b.ensures.0 c.wide-f.ensures.0 c.load.auto.x
 
 pub bounds-x-k : goal.bounds-x-k
-bounds-x-k c = omega (arith, c.requires.here, c.add_columns.auto.1.1.1.1.1.1.0, c.load.auto.1.1.1.0)
+bounds-x-k c = omega (arith, c.requires.here, c.add_columns.auto.x, c.load.auto.x)
 
 pub returns : goal.returns
 returns c = gathered c.requires c.wide-a.ensures.0 c.wide-e.ensures.0 c.wide-b.ensures.0 c.wide-f.ensures.0 _ _ c.load.ensures c.add_columns.ensures

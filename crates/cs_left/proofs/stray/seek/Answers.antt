@@ -6,7 +6,7 @@ pub meet_columns-requires : goal.meet_columns-requires
 meet_columns-requires c = (c.requires.stored, c.requires.room)
 
 pub some_stray-requires : goal.some_stray-requires
-some_stray-requires c = (sought_kept c.meet_columns.auto.1.1.1.0 c.requires, c.meet_columns.ensures)
+some_stray-requires c = (sought_kept c.meet_columns.auto.next c.requires, c.meet_columns.ensures)
 
 pub returns : goal.returns
 returns c = c.some_stray.ensures

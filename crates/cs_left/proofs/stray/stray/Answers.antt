@@ -3,6 +3,7 @@ use mathlib.Core.Logic.{⊎_elim}
 use native.Mathlib.Omega.{arith}
 use Rattle.cs_left.proofs.Straying.{straying_start, straying_pass, straying_short, straying_above, straying_found, straying_skip, straying_end}
 use Rattle.cs_left.proofs.stray.stray.Goals as goal
+use Rattle.cs_left.proofs.stray.stray.Goals.{else-h-row-2, then-h-row-2}
 
 pub loop-q-init : goal.loop-q-init
 loop-q-init c = straying_start _ c.requires
@@ -14,10 +15,10 @@ pub returns-then-h-row : goal.returns-then-h-row
 returns-then-h-row c = straying_above c.loop-q.invariant c.loop-q-test.true c.wide-row.ensures.0 c.wide-h.ensures.0 c.if-row-k.true c.if-h-row.true
 
 pub loop-q-smaller-then-row-k : goal.loop-q-smaller-then-row-k
-loop-q-smaller-then-row-k c = ?
+loop-q-smaller-then-row-k c = elim c.if-h-row-2.branch [ then-h-row-2 t ↦ omega (arith, t.q-is, c.loop-q-test.true, c.if-at-held.false) | else-h-row-2 u ↦ omega (arith, u.q-is, c.loop-q-test.true, c.if-at-held.false) ]
 
 pub loop-q-preserved-then-row-k : goal.loop-q-preserved-then-row-k
-loop-q-preserved-then-row-k c = ?
+loop-q-preserved-then-row-k c = let w = c.loop-q.invariant in let g = c.loop-q-test.true in let e = c.wide-row.ensures.0 in let d = c.wide-h.ensures.0 in let l = c.if-at-held.false in ⊎_elim (λ t. rw t.1 (straying_found w g e d l t.0.taken)) (λ u. rw u.1 (straying_skip w g e d l (omega (arith, c.if-h-row.false, u.0.left)))) c.if-h-row-2.branch
 
 pub loop-q-smaller : goal.loop-q-smaller
 loop-q-smaller c = omega (arith, c.loop-q-test.true)

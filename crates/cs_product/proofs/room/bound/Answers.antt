@@ -43,13 +43,13 @@ pub span_of-s-requires : goal.span_of-s-requires
 span_of-s-requires c = bounding_asks _ _ _ _ _ _ _ _ _ c.loop-j.invariant c.loop-j-test.true c.wide-a.ensures.0 c.wide-e.ensures.0
 
 pub overflow_sub-s : goal.overflow_sub-s
-overflow_sub-s c = c.Span-of.ensures.order
+overflow_sub-s c = c.span_of-s.ensures.order
 
 pub smaller-most-requires : goal.smaller-most-requires
 smaller-most-requires c = tt
 
 pub overflow_add-most : goal.overflow_add-most
-overflow_add-most c = let h = bounding_small _ _ _ _ _ _ _ _ _ c.loop-j.invariant c.loop-j-test.true c.wide-a.ensures.0 c.wide-e.ensures.0 c.Span-of.ensures c.smaller-most.ensures in record { fits = omega arith }
+overflow_add-most c = let h = bounding_small _ _ _ _ _ _ _ _ _ c.loop-j.invariant c.loop-j-test.true c.wide-a.ensures.0 c.wide-e.ensures.0 c.span_of-s.ensures c.smaller-most.ensures in record { fits = omega arith }
 
 pub overflow_step-j : goal.overflow_step-j
 overflow_step-j c = let h = c.loop-j-test.true in let g = c.loop-j.invariant.ask.second.pattern.cols in record { fits = omega arith }
@@ -58,7 +58,7 @@ pub loop-j-smaller : goal.loop-j-smaller
 loop-j-smaller c = omega (arith, c.loop-j-test.true)
 
 pub loop-j-preserved : goal.loop-j-preserved
-loop-j-preserved c = bounding_turn _ _ _ _ _ _ _ _ _ c.loop-j.invariant c.loop-j-test.true c.wide-a.ensures.0 c.wide-e.ensures.0 c.Span-of.ensures c.smaller-most.ensures
+loop-j-preserved c = bounding_turn _ _ _ _ _ _ _ _ _ c.loop-j.invariant c.loop-j-test.true c.wide-a.ensures.0 c.wide-e.ensures.0 c.span_of-s.ensures c.smaller-most.ensures
 
 pub returns : goal.returns
 returns c = bounding_done _ _ _ _ _ _ _ _ _ c.loop-j.invariant c.loop-j-test.false
