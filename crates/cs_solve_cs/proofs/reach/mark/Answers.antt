@@ -13,7 +13,11 @@ pub loop-k-smaller : goal.loop-k-smaller
 loop-k-smaller c = omega (arith, c.loop-k-test.true)
 
 pub loop-k-preserved : goal.loop-k-preserved
-loop-k-preserved c = let w = c.loop-k.invariant in let g = c.loop-k-test.true in let e = c.wide-r.ensures.0 in elim c.if-from-r.branch [ then-from-r+then-r-w t ↦ rw t.2 (marking_set w g e t.w-is.true) | else-from-r u ↦ rw u.w-is (⊎_elim (λ s. marking_out w g e (ltb-false _ _ s.1.left)) (λ s. marking_below w g e s.left) u.if-from-r.came) ]
+loop-k-preserved c = let w = c.loop-k.invariant in let g = c.loop-k-test.true in let e = c.wide-r.ensures.0 in elim c.if-from-r.branch [
+        then-from-r+then-r-w t ↦ rw t.w-is (marking_set w g e t.if-from-r.true)
+      | else-from-r u ↦ rw u.w-is (elim u.else-from-r.branch [
+            else-from-r-via-then-from-r+else-r-w s ↦ marking_out w g e s.if-r-w.false
+          | else-from-r-via-else-from-r s ↦ marking_below w g e s.if-from-r.false ]) ]
 
 pub shape_of-w : goal.shape_of-w
 shape_of-w c = c.loop-k.invariant.long

@@ -6,6 +6,8 @@ use lib.ListN.{length, length-replicate}
 use Rattle.cs_solve_cs.proofs.Reaching.{reaching_start, reaching_on, reaching_off, seen_before, seen_new, seen_not, reaching_end, count_small}
 use Rattle.cs_solve.proofs.Columns.{handed, j_small}
 use Rattle.cs_solve_cs.proofs.reach.reach.Goals as goal
+use Rattle.cs_solve_cs.proofs.reach.reach.Goals.{then-w-j-ne0, else-w-j-ne0, then-n-lacking+then-value_at, else-n-lacking}
+use Rattle.cs_solve_cs.proofs.reach.reach.Goals.{else-n-lacking-via-then-n-lacking+else-value_at, else-n-lacking-via-else-n-lacking}
 
 pub loop-j-init : goal.loop-j-init
 loop-j-init c = reaching_start c.requires.0 c.requires.1 c.mark.ensures
@@ -47,18 +49,18 @@ pub loop-j-preserved : goal.loop-j-preserved
 loop-j-preserved c =
     let r = c.loop-j.invariant in
     let h = c.loop-j-test.true in
-    ⊎_elim
-    (λ t.
-    let b = handed r.valid h t.2.ensures.0 t.4.ensures.0 in
-    rw (t.11, t.12, t.13)
-    (reaching_on r h t.0.taken b
-    (⊎_elim
-    (λ u. rw u.5 (seen_new r h b u.3.ensures u.0.taken u.4.taken))
-    (λ u. rw u.1 (⊎_elim (λ s. seen_not r h b s.3.ensures s.4.left) (λ s. seen_before r h s.left) u.0.came))
-    t.5.came)
-    t.8.ensures))
-    (λ t. rw (t.1, t.2, t.3) (reaching_off r h t.0.left))
-    c.if-w-j-ne0.branch
+    elim c.if-w-j-ne0.branch [
+        then-w-j-ne0 t ↦
+        let b = handed r.valid h t.wide-a.ensures.0 t.wide-e.ensures.0 in
+        rw (t.w-is, t.count-is, t.lacking-is)
+        (reaching_on r h t.if-w-j-ne0.true b
+        (elim t.if-n-lacking.branch [
+            then-n-lacking+then-value_at u ↦ rw u.lacking-is (seen_new r h b u.value_at.ensures u.if-n-lacking.true u.if-value_at.true)
+          | else-n-lacking u ↦ rw u.lacking-is (elim u.else-n-lacking.branch [
+                else-n-lacking-via-then-n-lacking+else-value_at s ↦ seen_not r h b s.value_at.ensures s.if-value_at.false
+              | else-n-lacking-via-else-n-lacking s ↦ seen_before r h s.if-n-lacking.false ]) ])
+        t.mark-then-w-j-ne0.ensures)
+      | else-w-j-ne0 t ↦ rw (t.w-is, t.count-is, t.lacking-is) (reaching_off r h t.if-w-j-ne0.false) ]
 
 pub shape_of-w : goal.shape_of-w
 shape_of-w c = c.loop-j.invariant.long ∙ sym (ap length c.requires.1 ∙ length-replicate _ _)
