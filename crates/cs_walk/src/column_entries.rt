@@ -5,21 +5,21 @@ ghost use Rattle.std.specs.Prelude.{◌≡◌, length, take};
 ghost use Rattle.lists.specs.Choices.{some};
 ghost use Rattle.cs_walk.specs.Walk.{number, left, first, told, after, walked, moved, Whole, step};
 
-#[derive(Drop)]
+#[derive(Clone, Copy)]
 pub struct ColumnEntries<'a, 'b> {
     curr: usize,
     i: &'a [u32],
     v: &'b [f64],
 }
 
-#[derive(Drop)]
+#[derive(Clone, Copy)]
 pub enum Entry {
     Pair(u32, f64),
     End,
 }
 
 // What one step of a walk tells.
-#[derive(Drop)]
+#[derive(Clone, Copy)]
 pub struct Step {
     pub number: u32,
     pub entry: Entry,
