@@ -100,8 +100,8 @@ module _ (k : ℕ) (i : List ℕ) (v : List Float) where
   left_differs h = ap (drop k) (given-none i v (number_differs i v h)) ∙ drop_of_length-le {A = ℕ × Float} [] {i = k} (omega arith)
 
   -- ---- whether an entry stands there: what the test finds, and what it says
-  pub none-refused : {n : ℕ} → n ≡ number i v → (n ≡ 0 → ⊥) → false ≡ some (left k i v)
-  none-refused e h = sym (ap some (left_differs (λ l. h (e ∙ sym (number_same i v l)))))
+  pub none_refused : {n : ℕ} → n ≡ number i v → (n ≡ 0 → ⊥) → false ≡ some (left k i v)
+  none_refused e h = sym (ap some (left_differs (λ l. h (e ∙ sym (number_same i v l)))))
 
   pub one_there : {n : ℕ} → n ≡ number i v → n ≡ 0 → ltb k (length i) ≡ some (left k i v)
   one_there e z =

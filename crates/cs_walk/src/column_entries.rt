@@ -38,6 +38,7 @@ pub fn check_parts(i: &[u32], v: &[f64]) -> u32
 }
 
 // The parts have equal lengths, and an entry stands at the position.
+#[tactic(auto, using(crate::proofs::Walking::none_refused, crate::proofs::Walking::one_there))]
 fn entry_there(curr: usize, i: &[u32], v: &[f64]) -> bool
     ensures { result ≡ some (left curr i.now v.now) }
 {
