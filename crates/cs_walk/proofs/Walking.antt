@@ -116,7 +116,11 @@ module _ (k : ℕ) (i : List ℕ) (v : List Float) where
 
   module _ {b : Bool} (e : b ≡ some (left k i v)) where
     pub there : b ≡ true → There
-    there h = ⊎_elim (λ (l : length i ≡ length v). inside l (le-or-lt (length i) k)) (λ (n : length i ≡ length v → ⊥). absurd (not-both _ (sym e ∙ h) (ap some (left_differs n)))) (eq-or-ne (length i) (length v))
+    there h =
+        ⊎_elim
+        (λ (l : length i ≡ length v). inside l (le-or-lt (length i) k))
+        (λ (n : length i ≡ length v → ⊥). absurd (not-both _ (sym e ∙ h) (ap some (left_differs n))))
+        (eq-or-ne (length i) (length v))
       where
         inside : length i ≡ length v → (length i ≤ k) ⊎ (k < length i) → There
         inside l =
