@@ -33,7 +33,7 @@ pub keep-h-requires : goal.keep-h-requires
 keep-h-requires c = (c.loop-at.invariant.fits, going_sound c.loop-at.invariant (told c.record_at-r.result) c.fault-number.ensures c.if-number-ne0.false)
 
 pub overflow_add-at : goal.overflow_add-at
-overflow_add-at c = omega (arith, (within_file c.args.s.now c.loop-at.at c.loop-at-test.true c.record_at-r.ensures c.type_size.ensures).0, c.well-formed.0)
+overflow_add-at c = omega (arith, (within_file c.args.s.now c.loop-at.at c.loop-at-test.true c.record_at-r.ensures c.type_size.ensures).0, c.well_formed.0)
 
 pub loop-at-smaller : goal.loop-at-smaller
 loop-at-smaller c = let w = within_file c.args.s.now c.loop-at.at c.loop-at-test.true c.record_at-r.ensures c.type_size.ensures in omega (arith, w.0, w.1)
