@@ -20,7 +20,7 @@ use Rattle.cs_matrix.proofs.Pointers.{Between, between, column-is, length-column
 use Rattle.cs_columns.specs.Columns.{joined, with_columns, with_entries, either, laid, judged_two, short_for}
 use Rattle.cs_columns.proofs.Filling.{Filling, filling_start, filling_turn, filling_end, filling_at, filling_i, filling_v, room_i, room_v, room_p, room-all}
 use Rattle.cs_columns.proofs.Joining.{joined-none, length_more, joined-steps, joined_alike, entries-within, entries_valid}
-use Rattle.cs_columns.proofs.Judging.{early_two, Passed, passed, Roomy, roomy, short_fewer, short-for}
+use Rattle.cs_columns.proofs.Judging.{early_two, Passed, passed, Roomy, roomy, short_fewer, short_for_lem}
 use Rattle.cs_columns.proofs.Merging.{either-most}
 use Rattle.cs_columns.specs.Columns.{Operands}
 use Rattle.cs_sum.specs.Steps.{Risen, Column, Ready}
@@ -273,7 +273,7 @@ module _ (n m : ℕ) (pa ia : List ℕ) (va : List Float) (k l : ℕ) (pb ib : L
         size_is = rw same
 
         short-is : short (sum A B) old ≡ t
-        short-is = short-for (sum A B) old m (size A C) (p_long A B) (i_long A B ∙ size_is) (v_long A B ∙ size_is) ∙ sym g
+        short-is = short_for_lem (sum A B) old m (size A C) (p_long A B) (i_long A B ∙ size_is) (v_long A B ∙ size_is) ∙ sym g
 
         pub at_7 : t ≡ true → Answer 7 old
         at_7 h = (rw (← after_5, short-is, h), left_alone 7 _ old (λ q. omega arith) (λ q. omega arith), λ q. absurd (omega arith))

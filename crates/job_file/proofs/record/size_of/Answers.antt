@@ -7,20 +7,20 @@ use Rattle.job_file.proofs.record.size_of.Goals as goal
 
 pub returns-in-Size : goal.returns-in-Size
 unfolding size
-returns-in-Size c = sym (ap (λ (x : Found). size (told x)) c.enum_told-1.given.1)
+returns-in-Size c = sym (ap (λ (x : Found). size (told x)) c.in-Size.is)
 
 pub returns-in-Entry : goal.returns-in-Entry
 unfolding size
-returns-in-Entry c = sym (ap (λ (x : Found). size (told x)) c.enum_told-in-Entry-1.given.1)
+returns-in-Entry c = sym (ap (λ (x : Found). size (told x)) c.in-Entry.is)
 
 pub returns-in-Right : goal.returns-in-Right
 unfolding size
-returns-in-Right c = sym (ap (λ (x : Found). size (told x)) c.enum_told-in-Right-1.given.1)
+returns-in-Right c = sym (ap (λ (x : Found). size (told x)) c.in-Right.is)
 
 pub returns-in-Go : goal.returns-in-Go
 unfolding size
-returns-in-Go c = sym (ap (λ (x : Found). size (told x)) c.enum_told-in-Go-1.given.1)
+returns-in-Go c = sym (ap (λ (x : Found). size (told x)) c.in-Go.is)
 
 pub returns-in-Wrong : goal.returns-in-Wrong
 unfolding size
-returns-in-Wrong c = sym (ap (λ (x : Found). size (told x)) c.enum_told-in-Wrong-1.given.1)
+returns-in-Wrong c = sym (ap (λ (x : Found). size (told x)) c.in-Wrong.is)
