@@ -2,7 +2,7 @@
 use mathlib.Core.Path.{◌≡◌, sym, ap, ◌∙◌}
 use mathlib.Core.Bool.{Bool, true, false, not, ◌&&◌}
 use mathlib.Core.List.{List, [], ◌∷◌, ◌++◌, flatten}
-use Prim.Native.Nat.{ℕ, ◌+◌, ◌-◌, ◌≤◌, ◌<◌}
+use Prim.Native.Nat.{ℕ, ◌+◌, ◌≤◌, ◌<◌}
 use native.Mathlib.Omega.{arith}
 use lib.Dec.{ltb}
 use lib.Ieee.{Float}
@@ -14,7 +14,6 @@ use Rattle.lists.proofs.Bools.{and-true, or-false, not_holds, passed_over}
 use Rattle.lists.proofs.Calls.{Wide, not_narrow}
 use Rattle.lists.proofs.Passing.{lowest-none}
 use Rattle.cs_matrix.specs.Matrix.{pattern, Matrix, matrix, needed, Valid, judged_square_matrix}
-use Rattle.cs_matrix.proofs.Validity.{valid}
 use Rattle.cs_tree.specs.Pattern.{Analysis, analysis, analysed, upper, lower, starts, entries}
 use Rattle.cs_tree.specs.Tree.{tree, root}
 use Rattle.cs_tree.proofs.Count.{length-starts}

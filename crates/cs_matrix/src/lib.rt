@@ -1,5 +1,6 @@
 // A matrix in compressed columns: what a valid one is, and the check that tells, after cs_matrix.rs.
 #![tactic(auto)]
+
 pub mod check;
 pub mod room;
 pub mod square;

@@ -1,5 +1,5 @@
 -- What `compare` answers and leaves, at each way out. Assumes nothing.
-use Rattle.std.proofs.Common.{◌≡◌, ℕ, ◌+◌, ◌-◌, ◌≤◌, Bool, true, false, cond, not, eqb, List, [], ◌∷◌, ◌++◌, length, sym, refl, ap, ◌∙◌, append_assoc}
+use Rattle.std.proofs.Common.{◌≡◌, ℕ, ◌+◌, ◌≤◌, Bool, true, false, cond, not, eqb, List, [], ◌∷◌, ◌++◌, length, sym, refl, ap, ◌∙◌, append_assoc}
 use lib.Ieee.{Float}
 use Rattle.lists.specs.Calls.{lowest, Scratch, scratch, narrow, wiped, worked, Lent, lent, leaves}
 use Rattle.lists.specs.Keeping.{Kept}

@@ -1,5 +1,6 @@
 // The product of two matrices, after cs_matrix_ops.rs.
 #![tactic(auto)]
+
 mod accumulate;
 mod columns;
 mod gather;

@@ -1,5 +1,6 @@
 // The triangular solves with a dense right side, after cs_matrix_solve.rs.
 #![tactic(auto)]
+
 pub mod diagonal;
 mod judge;
 pub mod solve;

@@ -1,3 +1,4 @@
 // The transpose of a matrix, after cs_matrix.rs.
 #![tactic(auto)]
+
 pub mod transpose;

@@ -1,3 +1,2 @@
 pub mod Walking
 pub mod Columns
-pub mod Relent

@@ -1,6 +1,6 @@
 -- Laws of a walk over a column's parts: what is left at a position, one step of the walk, and the walk over the whole.
 -- Assumes nothing.
-use mathlib.Core.Bool.{Bool, true, false, not, cond}
+use mathlib.Core.Bool.{Bool, true, false, cond}
 use mathlib.Core.List.{List, [], ◌∷◌, ◌++◌, map, flatten}
 use mathlib.Core.Logic.{◌⊎◌, ⊎_elim}
 use mathlib.Core.Path.{◌≡◌, refl, sym, ap, ◌∙◌, subst}
@@ -13,7 +13,7 @@ use lib.Ieee.{Float, nan}
 use lib.ListN.{length, get_or, take, drop, replicate, length-drop, drop_of_length-le}
 use denote.Ref.{Bor}
 use Rattle.lists.specs.Choices.{some}
-use Rattle.lists.proofs.Bools.{eq-or-ne, le-or-lt, not-both, held, failed}
+use Rattle.lists.proofs.Bools.{eq-or-ne, le-or-lt, not-both}
 use Rattle.lists.proofs.Pairs.{pair_at}
 use Rattle.cs_walk.specs.Walk.{number, pairs, given, left, first, after, walked, moved, gives, paired, told, tells, Whole}
 use Rattle.cs_walk.specs.declared.column_entries.ColumnEntries.{ColumnEntries}
@@ -100,8 +100,8 @@ module _ (k : ℕ) (i : List ℕ) (v : List Float) where
   left_differs h = ap (drop k) (given-none i v (number_differs i v h)) ∙ drop_of_length-le {A = ℕ × Float} [] {i = k} (omega arith)
 
   -- ---- whether an entry stands there: what the test finds, and what it says
-  pub none-refused : {n : ℕ} → n ≡ number i v → (n ≡ 0 → ⊥) → false ≡ some (left k i v)
-  none-refused e h = sym (ap some (left_differs (λ l. h (e ∙ sym (number_same i v l)))))
+  pub none_refused : {n : ℕ} → n ≡ number i v → (n ≡ 0 → ⊥) → false ≡ some (left k i v)
+  none_refused e h = sym (ap some (left_differs (λ l. h (e ∙ sym (number_same i v l)))))
 
   pub one_there : {n : ℕ} → n ≡ number i v → n ≡ 0 → ltb k (length i) ≡ some (left k i v)
   one_there e z =
@@ -115,17 +115,21 @@ module _ (k : ℕ) (i : List ℕ) (v : List Float) where
     pub inside : k < length i
 
   module _ {b : Bool} (e : b ≡ some (left k i v)) where
-    pub there : not b ≡ false → There
-    there h = ⊎_elim (λ (l : length i ≡ length v). inside l (le-or-lt (length i) k)) (λ (n : length i ≡ length v → ⊥). absurd (not-both _ (held e h) (ap some (left_differs n)))) (eq-or-ne (length i) (length v))
+    pub there : b ≡ true → There
+    there h =
+        ⊎_elim
+        (λ (l : length i ≡ length v). inside l (le-or-lt (length i) k))
+        (λ (n : length i ≡ length v → ⊥). absurd (not-both _ (sym e ∙ h) (ap some (left_differs n))))
+        (eq-or-ne (length i) (length v))
       where
         inside : length i ≡ length v → (length i ≤ k) ⊎ (k < length i) → There
         inside l =
             ⊎_elim
-            (λ (g : length i ≤ k). absurd (not-both _ (held e h) (ap some (left_end l g))))
+            (λ (g : length i ≤ k). absurd (not-both _ (sym e ∙ h) (ap some (left_end l g))))
             (λ (g : k < length i). record { alike = l; inside = g })
 
-    pub nothing_left : not b ≡ true → left k i v ≡ []
-    nothing_left h = empty (left k i v) (failed e h)
+    pub nothing_left : b ≡ false → left k i v ≡ []
+    nothing_left h = empty (left k i v) (sym e ∙ h)
       where
         empty : (l : List (ℕ × Float)) → some l ≡ false → l ≡ []
         empty [] n = refl

@@ -2,14 +2,13 @@
 -- entry, over none, and over parts of unequal length. Assumes nothing.
 use Rattle.std.specs.Prelude.{List, [], ◌∷◌, map, ◌≡◌, ℕ, Float}
 use Rattle.std.proofs.Math.Path.{refl}
-use Rattle.std.specs.Borrow.{GName}
 use Rattle.cs_matrix.specs.Matrix.{column}
 use Rattle.cs_walk.specs.Walk.{number, pairs, given, left, first, after, gives}
 use Rattle.cs_walk.specs.declared.column_entries.ColumnEntries.{ColumnEntries}
 use Rattle.cs_walk.specs.declared.column_entries.Entry.{Entry}
 use Rattle.cs_walk.specs.declared.column_entries.Entry.TheVariants.{Pair, End}
 
-module _ (δ : GName) (a b c d e f g h j k : Float) where
+module _ (a b c d e f g h j k : Float) where
   abbrev starts : List ℕ
   starts = 0 ∷ 3 ∷ 5 ∷ 7 ∷ 10 ∷ []
 
@@ -21,7 +20,7 @@ module _ (δ : GName) (a b c d e f g h j k : Float) where
 
   -- a walker at the start of two lists, wherever they lie
   abbrev over : List ℕ → List Float → ColumnEntries
-  over i v = record { curr = 0; i = record { ref_ptr = (0, 0); ghost_name = δ; now = i }; v = record { ref_ptr = (0, 0); ghost_name = δ; now = v } }
+  over i v = record { curr = 0; i = record { ref_ptr = (0, 0); now = i }; v = record { ref_ptr = (0, 0); now = v } }
 
   abbrev of_Q : ℕ → ColumnEntries
   of_Q n = over (column starts n rows) (column starts n values)

@@ -5,21 +5,21 @@ ghost use Rattle.std.specs.Prelude.{◌≡◌, length, take};
 ghost use Rattle.lists.specs.Choices.{some};
 ghost use Rattle.cs_walk.specs.Walk.{number, left, first, told, after, walked, moved, Whole, step};
 
-#[derive(Drop)]
+#[derive(Clone, Copy)]
 pub struct ColumnEntries<'a, 'b> {
     curr: usize,
     i: &'a [u32],
     v: &'b [f64],
 }
 
-#[derive(Drop)]
+#[derive(Clone, Copy)]
 pub enum Entry {
     Pair(u32, f64),
     End,
 }
 
 // What one step of a walk tells.
-#[derive(Drop)]
+#[derive(Clone, Copy)]
 pub struct Step {
     pub number: u32,
     pub entry: Entry,
@@ -38,6 +38,7 @@ pub fn check_parts(i: &[u32], v: &[f64]) -> u32
 }
 
 // The parts have equal lengths, and an entry stands at the position.
+#[tactic(auto, using(crate::proofs::Walking::none_refused, crate::proofs::Walking::one_there))]
 fn entry_there(curr: usize, i: &[u32], v: &[f64]) -> bool
     ensures { result ≡ some (left curr i.now v.now) }
 {

@@ -1,7 +1,7 @@
 -- Operations at zeros: what a zero does to another value, and that two operands that are alike give results that are. Assumes nothing.
 use mathlib.Core.Path.{◌≡◌, refl, sym, ap, ◌∙◌}
 use mathlib.Core.Bool.{Bool, true, false, not, cond, ◌&&◌, beq, true≢false}
-use mathlib.Core.Logic.{◌⊎◌, inl, inr, ⊎_elim}
+use mathlib.Core.Logic.{inl, inr, ⊎_elim}
 use Prim.Native.Nat.{ℕ, zero, suc, ◌+◌, ◌-◌, ◌*◌, ◌^◌, ◌<◌}
 use native.Mathlib.Nat.{mul-one, one-mul, zero-mul, zero-add, add-zero, mul-pos, zero-lt-suc, pow-succ'}
 use native.Mathlib.Omega.{arith}

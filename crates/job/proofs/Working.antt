@@ -7,7 +7,7 @@ use lib.Ieee.{Float}
 use lib.ListN.{length, drop}
 use Rattle.lists.specs.Calls.{onto}
 use Rattle.cs_matrix.specs.Matrix.{Matrix, stored}
-use Rattle.cs_tree.specs.Pattern.{Analysis, analysis, analysed}
+use Rattle.cs_tree.specs.Pattern.{Analysis, analysed}
 use Rattle.cs_pattern.specs.Columns.{columns}
 use Rattle.lists.specs.Order.{starts_with}
 use Rattle.cs_pattern.specs.Compare.{same}

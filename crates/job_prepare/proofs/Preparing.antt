@@ -15,7 +15,7 @@ use Rattle.lists.proofs.Calls.{left-done}
 use Rattle.lists.proofs.Parts.{get_or-onto-front}
 use Rattle.lists.proofs.Places.{take-onto}
 use Rattle.cs_matrix.specs.Matrix.{Pattern, pattern, Matrix, matrix, Stored, stored, written, short, needed, judged_square}
-use Rattle.cs_tree.specs.Pattern.{Analysis, analysis, analysed}
+use Rattle.cs_tree.specs.Pattern.{Analysis, analysed}
 use Rattle.cs_conversion.specs.Assembly.{Triplets, triplets, judged_triplets, needed_triplets, twice, assembled, Assembled, number as assemblyNumber}
 use Rattle.cs_pattern.specs.Analyse.{number as analysisNumber, written as writtenAnalysis, short as shortAnalysis}
 use Rattle.cs_pattern.specs.Columns.{columns}

@@ -1,3 +1,4 @@
 // A job's entries assembled and analysed.
 #![tactic(auto)]
+
 pub mod prepare;

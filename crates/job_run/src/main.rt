@@ -1,8 +1,14 @@
 // The job files that its arguments name, each with its answer in hexadecimal: a file a line.
 #![tactic(auto)]
+
 ghost use Rattle.std.specs.Prelude.{◌≤◌, length};
 
-use libc::STDOUT_FILENO;
+use reading::fill;
+use std::env::FillError;
+use std::fs::File;
+use std::io;
+use std::io::Read;
+use std::rt::{Env, Files};
 
 fn digit(x: u8) -> u8 {
     match x {
@@ -27,42 +33,45 @@ fn spell(bytes: &[u8], text: &mut [u8]) -> usize
     at
 }
 
-fn show(bytes: &[u8]) {
+fn show(rt: &impl Print, bytes: &[u8]) -> io::Result<()> {
     let mut text: [u8; 7168] = [0; 7168];
     let e = spell(bytes, &mut text);
-    io::write_all(STDOUT_FILENO, &text[..e]);
-    io::write_all(STDOUT_FILENO, b"\n");
+    rt.write_all(&text[..e])?;
+    rt.write_all(b"\n")
 }
 
-// Answers what the file fd holds.
-fn answer(fd: i32) {
+// Answers what a file holds.
+fn answer<R: Read>(rt: &impl Print, file: &mut R) -> io::Result<()> {
     let mut input: [u8; 40479] = [0; 40479];
     let mut out: [u8; 3584] = [0; 3584];
-    let n = io::read_full(fd, &mut input);
+    let n = fill(file, &mut input);
     let r = job::job::job(&input[..n], &mut out);
     let end = r.written;
-    show(&out[..end]);
+    show(rt, &out[..end])
 }
 
-fn turn(i: usize) {
-    let mut name = io::buffer();
-    let n = os::arg(i, &mut name);
-    io::write_all(STDOUT_FILENO, &name[..n]);
-    io::write_all(STDOUT_FILENO, b": ");
-    let fd = os::open_read(&name[..n]);
-    if fd < 0 {
-        io::write_all(STDOUT_FILENO, b"no such file\n");
-        return;
+// A path is text: bytes that are not name no file.
+fn turn<R: Files + Print>(rt: &R, name: &[u8]) -> io::Result<()> {
+    rt.write_all(name)?;
+    rt.write_all(b": ")?;
+    let Ok(path) = str::from_utf8(name) else {
+        return rt.write_all(b"no such file\n");
+    };
+    match File::open(rt, path) {
+        Ok(mut file) => answer(rt, &mut file),
+        Err(_) => rt.write_all(b"no such file\n"),
     }
-    answer(fd);
-    libc::close(fd);
 }
 
-fn main() {
-    let n = os::arg_count();
-    let mut i = 1;
-    while i < n {
-        turn(i);
-        i += 1;
+fn main(rt: HostRuntime) -> io::Result<()> {
+    let mut name = [0u8; 4096];
+    for i in 1..usize::MAX {
+        let n = match rt.arg(i, &mut name) {
+            Ok(n) => n,
+            Err(FillError::NotPresent) => break,
+            Err(FillError::TooLong) => 0,
+        };
+        turn(&rt, &name[..n])?;
     }
+    Ok(())
 }

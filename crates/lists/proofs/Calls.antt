@@ -1,5 +1,5 @@
 -- What a call answers and leaves, on the way through its judgements. Assumes nothing.
-use Rattle.std.proofs.Common.{◌≡◌, ℕ, zero, suc, ◌+◌, ◌<◌, ◌≤◌, min, Bool, true, false, cond, ◌||◌, ltb, List, [], ◌∷◌, ◌++◌, length, sym, refl, ◌∙◌, arith, ltb-false, le-ltb, lt-ltb, eq-eqb, ne_eqb}
+use Rattle.std.proofs.Common.{◌≡◌, ℕ, zero, suc, ◌<◌, ◌≤◌, min, Bool, true, false, cond, ◌||◌, ltb, List, [], ◌∷◌, ◌++◌, length, sym, refl, ◌∙◌, arith, ltb-false, le-ltb, lt-ltb, eq-eqb, ne_eqb}
 use lib.Ieee.{Float}
 use Rattle.lists.specs.Calls.{lowest, both, lower, none, cleared, Scratch, scratch, narrow, wiped, Lent, outputs, worked, leaves}
 use Rattle.lists.proofs.Bools.{or-false}

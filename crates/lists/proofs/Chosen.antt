@@ -1,5 +1,5 @@
 -- The numbers at which a test holds, as a list: its members, its length, what is kept of it, a fold along it. Assumes nothing.
-use Rattle.std.proofs.Common.{◌≡◌, ℕ, zero, suc, ◌+◌, ◌<◌, ◌≤◌, Bool, true, false, cond, ◌&&◌, ◌||◌, List, [], ◌∷◌, ◌++◌, map, length, sym, refl, ap, ◌∙◌, ⊎_elim, true≢false, append-nil, eq-or-lt_of_le, arith, length-append}
+use Rattle.std.proofs.Common.{◌≡◌, ℕ, zero, suc, ◌<◌, ◌≤◌, Bool, true, false, cond, ◌&&◌, ◌||◌, List, [], ◌∷◌, ◌++◌, map, length, sym, refl, ap, ◌∙◌, ⊎_elim, true≢false, append-nil, eq-or-lt_of_le, arith, length-append}
 use mathlib.Core.List.{Memᴰ}
 use Rattle.lists.specs.Choices.{chosen, some_of, keep}
 use Rattle.lists.specs.Folds.{along}

@@ -1,5 +1,5 @@
 -- Strictly rising lists, each number once, and what the tests say. Assumes nothing.
-use Rattle.std.proofs.Common.{◌≡◌, ℕ, zero, suc, ◌+◌, ◌-◌, ◌<◌, ◌≤◌, Bool, true, false, ◌||◌, eqb, ltb, ◌⊎◌, List, [], ◌∷◌, length, get_or, sym, refl, ⊎_elim, true≢false, eq-or-lt_of_le, add-one, arith, ltb-true, lt-ltb, eq-eqb, eqb-true}
+use Rattle.std.proofs.Common.{◌≡◌, ℕ, zero, suc, ◌+◌, ◌-◌, ◌<◌, ◌≤◌, Bool, true, false, ◌||◌, eqb, ltb, List, [], ◌∷◌, length, get_or, sym, refl, ⊎_elim, true≢false, eq-or-lt_of_le, add-one, arith, ltb-true, lt-ltb, eq-eqb, eqb-true}
 use mathlib.Core.List.Memᴰ
 use mathlib.Core.List.{Memᴰ}
 use Rattle.lists.specs.Order.{rises, lists, Rising, flat, step, Once, no_more, one_more}

@@ -1,5 +1,6 @@
 // What every crate stands on: small total functions here, the definitions and laws on lists in specs/ and proofs/.
 #![tactic(auto)]
+
 pub mod clear;
 pub mod numbers;
 pub mod order;

@@ -1,5 +1,6 @@
 // Little-endian numbers in byte slices. Past the end of the slice a byte is read as 0, and none is written.
 #![tactic(auto)]
+
 ghost use Rattle.std.specs.Prelude.{◌≡◌, ◌<◌, ◌^◌, drop};
 ghost use Rattle.std.proofs.lemmas.List.Edits.{sets};
 ghost use Rattle.little.specs.Little.{little, bytes};

@@ -21,6 +21,8 @@ use cs_up::up::decompose_up_looking;
 use cs_walk::column_entries::{Entry, next_entry};
 use lists::numbers::wide;
 use lists::sums::cumsum;
+use std::io;
+use std::io::Read;
 
 // What any call answers: its number, and the column and the pivot of those that have one.
 #[derive(Drop)]
@@ -258,7 +260,8 @@ fn call(
 }
 
 // The slices of words, read, and written.
-fn load(
+fn load<R: Read>(
+    input: &mut R,
     s0: &mut [u32],
     s1: &mut [u32],
     s2: &mut [u32],
@@ -270,19 +273,20 @@ fn load(
     w2: &mut [u32],
     w3: &mut [u32],
 ) {
-    read_words(s0);
-    read_words(s1);
-    read_words(s2);
-    read_words(s3);
-    read_words(s4);
-    read_words(s5);
-    read_words(s6);
-    read_words(w1);
-    read_words(w2);
-    read_words(w3);
+    read_words(input, s0);
+    read_words(input, s1);
+    read_words(input, s2);
+    read_words(input, s3);
+    read_words(input, s4);
+    read_words(input, s5);
+    read_words(input, s6);
+    read_words(input, w1);
+    read_words(input, w2);
+    read_words(input, w3);
 }
 
 fn save(
+    rt: &impl Print,
     s0: &[u32],
     s1: &[u32],
     s2: &[u32],
@@ -293,35 +297,37 @@ fn save(
     w1: &[u32],
     w2: &[u32],
     w3: &[u32],
-) {
-    write_words(s0);
-    write_words(s1);
-    write_words(s2);
-    write_words(s3);
-    write_words(s4);
-    write_words(s5);
-    write_words(s6);
-    write_words(w1);
-    write_words(w2);
-    write_words(w3);
+) -> io::Result<()> {
+    write_words(rt, s0)?;
+    write_words(rt, s1)?;
+    write_words(rt, s2)?;
+    write_words(rt, s3)?;
+    write_words(rt, s4)?;
+    write_words(rt, s5)?;
+    write_words(rt, s6)?;
+    write_words(rt, w1)?;
+    write_words(rt, w2)?;
+    write_words(rt, w3)
 }
 
-fn load_values(v: &mut [f64], b: &mut [f64], o: &mut [f64], x: &mut [f64]) {
-    read_values(v);
-    read_values(b);
-    read_values(o);
-    read_values(x);
+fn load_values<R: Read>(input: &mut R, v: &mut [f64], b: &mut [f64], o: &mut [f64], x: &mut [f64]) {
+    read_values(input, v);
+    read_values(input, b);
+    read_values(input, o);
+    read_values(input, x);
 }
 
-fn save_values(v: &[f64], b: &[f64], o: &[f64], x: &[f64]) {
-    write_values(v);
-    write_values(b);
-    write_values(o);
-    write_values(x);
+fn save_values(rt: &impl Print, v: &[f64], b: &[f64], o: &[f64], x: &[f64]) -> io::Result<()> {
+    write_values(rt, v)?;
+    write_values(rt, b)?;
+    write_values(rt, o)?;
+    write_values(rt, x)
 }
 
 // Reads the slices of a case, makes its call, and writes the answer and the slices.
-fn serve(
+fn serve<R: Read>(
+    rt: &impl Print,
+    input: &mut R,
     h: &[u32; 20],
     s0: &mut [u32],
     s1: &mut [u32],
@@ -337,20 +343,20 @@ fn serve(
     b: &mut [f64],
     o: &mut [f64],
     x: &mut [f64],
-) {
-    load(s0, s1, s2, s3, s4, s5, s6, w1, w2, w3);
-    load_values(v, b, o, x);
+) -> io::Result<()> {
+    load(input, s0, s1, s2, s3, s4, s5, s6, w1, w2, w3);
+    load_values(input, v, b, o, x);
     let a = call(h, s0, s1, s2, s3, s4, s5, s6, w1, w2, w3, v, b, o, x);
-    save_answer(a.number, a.column, a.pivot);
-    save(s0, s1, s2, s3, s4, s5, s6, w1, w2, w3);
-    save_values(v, b, o, x);
+    save_answer(rt, a.number, a.column, a.pivot)?;
+    save(rt, s0, s1, s2, s3, s4, s5, s6, w1, w2, w3)?;
+    save_values(rt, v, b, o, x)
 }
 
 // One case; whether there was one.
-fn turn() -> bool {
+fn turn<R: Read>(rt: &impl Print, input: &mut R) -> io::Result<bool> {
     let mut h = [0u32; 20];
-    if !read_head(&mut h) {
-        return false;
+    if !read_head(input, &mut h) {
+        return Ok(false);
     }
     let mut s0 = [0u32; 4096];
     let mut s1 = [0u32; 4096];
@@ -381,6 +387,8 @@ fn turn() -> bool {
     let lo = capped(h[18]);
     let lx = capped(h[19]);
     serve(
+        rt,
+        input,
         &h,
         &mut s0[0..ls0],
         &mut s1[0..ls1],
@@ -396,14 +404,16 @@ fn turn() -> bool {
         &mut b[0..lb],
         &mut o[0..lo],
         &mut x[0..lx],
-    );
-    true
+    )?;
+    Ok(true)
 }
 
-// A proved loop has to end, and nothing says that the input does: the turns are counted down, from a number that no run uses up.
-pub fn replay() {
-    let mut turns = u64::MAX;
-    while turns > 0 && turn() {
-        turns -= 1;
+// A proved loop has to end, and nothing says that the input does: the turns are counted, up to a number that no run reaches.
+pub fn replay<R: Read>(rt: &impl Print, input: &mut R) -> io::Result<()> {
+    for _ in 0..u64::MAX {
+        if !turn(rt, input)? {
+            break;
+        }
     }
+    Ok(())
 }

@@ -2,8 +2,10 @@
 ghost use Rattle.std.specs.Prelude.{◌≤◌};
 
 use float_bits::{bits_of, of_bits};
-use libc::{STDIN_FILENO, STDOUT_FILENO};
 use little::{put, u32_at, u64_at};
+use reading::fill;
+use std::io;
+use std::io::Read;
 
 // No slice of a case is longer.
 pub fn capped(n: u32) -> usize
@@ -69,57 +71,57 @@ fn of_values(a: &[f64], raw: &mut [u8]) {
     }
 }
 
-fn read(n: usize, raw: &mut [u8]) {
+fn read<R: Read>(input: &mut R, n: usize, raw: &mut [u8]) {
     if n == 0 || n > raw.len() {
         return;
     }
-    io::read_full(STDIN_FILENO, &mut raw[0..n]);
+    fill(input, &mut raw[0..n]);
 }
 
-fn write(n: usize, raw: &[u8]) {
+fn write(rt: &impl Print, n: usize, raw: &[u8]) -> io::Result<()> {
     if n > raw.len() {
-        return;
+        return Ok(());
     }
-    io::write_all(STDOUT_FILENO, &raw[0..n]);
+    rt.write_all(&raw[0..n])
 }
 
-pub fn read_words(out: &mut [u32]) {
+pub fn read_words<R: Read>(input: &mut R, out: &mut [u32]) {
     let mut raw = [0u8; 16384];
-    read(4 * moved(out.len()), &mut raw);
+    read(input, 4 * moved(out.len()), &mut raw);
     words_of(&raw, out);
 }
 
-pub fn read_values(out: &mut [f64]) {
+pub fn read_values<R: Read>(input: &mut R, out: &mut [f64]) {
     let mut raw = [0u8; 32768];
-    read(8 * moved(out.len()), &mut raw);
+    read(input, 8 * moved(out.len()), &mut raw);
     values_of(&raw, out);
 }
 
-pub fn write_words(a: &[u32]) {
+pub fn write_words(rt: &impl Print, a: &[u32]) -> io::Result<()> {
     let mut raw = [0u8; 16384];
     of_words(a, &mut raw);
-    write(4 * moved(a.len()), &raw);
+    write(rt, 4 * moved(a.len()), &raw)
 }
 
-pub fn write_values(a: &[f64]) {
+pub fn write_values(rt: &impl Print, a: &[f64]) -> io::Result<()> {
     let mut raw = [0u8; 32768];
     of_values(a, &mut raw);
-    write(8 * moved(a.len()), &raw);
+    write(rt, 8 * moved(a.len()), &raw)
 }
 
 // The twenty numbers that a case begins with; whether they are all there.
-pub fn read_head(h: &mut [u32]) -> bool {
+pub fn read_head<R: Read>(input: &mut R, h: &mut [u32]) -> bool {
     let mut raw = [0u8; 80];
-    let got = io::read_full(STDIN_FILENO, &mut raw);
+    let got = fill(input, &mut raw);
     words_of(&raw, h);
     got == 80
 }
 
 // The answer: number, column, pivot.
-pub fn save_answer(number: u32, column: u32, pivot: f64) {
+pub fn save_answer(rt: &impl Print, number: u32, column: u32, pivot: f64) -> io::Result<()> {
     let mut raw = [0u8; 16];
     put(wide(number), 4, 0, &mut raw);
     put(wide(column), 4, 4, &mut raw);
     put(bits_of(pivot), 8, 8, &mut raw);
-    write(16, &raw);
+    write(rt, 16, &raw)
 }

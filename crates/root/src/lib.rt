@@ -1,5 +1,6 @@
 // The square root of an f64, rounded to nearest, by integer arithmetic: from bits to bits, and of an f64.
 #![tactic(auto)]
+
 mod digits;
 mod near;
 mod positive;

@@ -1,5 +1,4 @@
 -- `in_order` meets its contract. Assumes nothing.
-use mathlib.Core.Logic.{⊎_elim}
 use native.Mathlib.Omega.{arith}
 use Rattle.cs_conversion.proofs.InOrder.{watching_start, watching_falls, watching_turn, watching_done, in_cols, last_small, here_small}
 use Rattle.cs_conversion.proofs.ordered.in_order.Goals as goal

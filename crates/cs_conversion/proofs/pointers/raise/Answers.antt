@@ -1,5 +1,4 @@
 -- `raise` meets its contract. Assumes nothing.
-use mathlib.Core.Logic.{⊎_elim}
 use native.Mathlib.Omega.{arith}
 use Rattle.cs_conversion.proofs.Pointing.{raising_start, raising_higher, raising_same, raising_done}
 use Rattle.cs_conversion.proofs.pointers.raise.Goals as goal

@@ -1,5 +1,4 @@
 -- `add_columns` meets its contract. Assumes nothing.
-use mathlib.Core.Logic.{⊎_elim}
 use native.Mathlib.Omega.{arith}
 use Rattle.cs_left.proofs.Crossing.{adding_start, adding_here, adding_turn, adding_pass, adding_end, crossing_order, crossing_li, crossing_lx, crossing_place, crossing_fits, crossing_asks}
 use Rattle.cs_left.proofs.column.add_columns.Goals as goal

@@ -1,5 +1,4 @@
 -- `load` meets its contract. Assumes nothing.
-use mathlib.Core.Logic.{⊎_elim}
 use Rattle.lists.proofs.Entries.{passing_start, passing_row, passing_value, passing_end}
 use Rattle.cs_left.proofs.Columns.{load_put, load_pass}
 use Rattle.cs_left.proofs.column.load.Goals as goal

@@ -1,7 +1,7 @@
 -- `some_stray`: the loop of proofs/Straying.antt. Assumes nothing.
 use native.Mathlib.Omega.{arith}
 use Rattle.lists.proofs.Choices.{upward_start}
-use Rattle.cs_left.proofs.Straying.{stray_at, seeks_at, strays-found, strays-turn, strays-end}
+use Rattle.cs_left.proofs.Straying.{seeks_at, strays-found, strays-turn, strays-end}
 use Rattle.cs_left.proofs.stray.some_stray.Goals as goal
 
 pub loop-k-init : goal.loop-k-init

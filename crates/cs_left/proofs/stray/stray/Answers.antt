@@ -1,5 +1,4 @@
 -- `stray` meets its contract. Assumes nothing.
-use mathlib.Core.Logic.{⊎_elim}
 use native.Mathlib.Omega.{arith}
 use Rattle.cs_left.proofs.Straying.{straying_start, straying_pass, straying_short, straying_above, straying_found, straying_skip, straying_end}
 use Rattle.cs_left.proofs.stray.stray.Goals as goal
@@ -19,8 +18,9 @@ loop-q-smaller-then-row-k c = elim c.if-h-row-2.branch [ then-h-row-2 t ↦ omeg
 
 pub loop-q-preserved-then-row-k : goal.loop-q-preserved-then-row-k
 loop-q-preserved-then-row-k c = let w = c.loop-q.invariant in let g = c.loop-q-test.true in let e = c.wide-row.ensures.0 in let d = c.wide-h.ensures.0 in let l = c.if-at-held.false in elim c.if-h-row-2.branch [
-        then-h-row-2 t ↦ rw t.q-is (straying_found w g e d l t.if-h-row-2.true)
-      | else-h-row-2 u ↦ rw u.q-is (straying_skip w g e d l (omega (arith, c.if-h-row.false, u.if-h-row-2.false))) ]
+  | then-h-row-2 t ↦ rw t.q-is (straying_found w g e d l t.if-h-row-2.true)
+  | else-h-row-2 u ↦ rw u.q-is (straying_skip w g e d l (omega (arith, c.if-h-row.false, u.if-h-row-2.false)))
+]
 
 pub loop-q-smaller : goal.loop-q-smaller
 loop-q-smaller c = omega (arith, c.loop-q-test.true)

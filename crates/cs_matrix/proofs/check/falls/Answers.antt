@@ -1,5 +1,4 @@
 -- `falls`: the loop of proofs/Falling.antt that counts. Assumes nothing.
-use mathlib.Core.Logic.{⊎_elim}
 use native.Mathlib.Omega.{arith}
 use borrow.Author.Tests.{le-leb, lt-leb}
 use Rattle.cs_matrix.specs.Falls.{fallen}

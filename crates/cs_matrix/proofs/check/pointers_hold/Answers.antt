@@ -1,6 +1,5 @@
 -- `pointers_hold`: the first, the last, then every pair of neighbours, and `falls` tells. Assumes nothing.
 use mathlib.Core.Path.{sym, ◌∙◌}
-use mathlib.Core.Logic.{⊎_elim}
 use borrow.Author.Tests.{le-leb, lt-leb}
 use Rattle.lists.proofs.Folds.{telling_start, telling_holds, telling_fails, telling_done}
 use Rattle.cs_matrix.proofs.Pointers.{pointers-first, pointers-last, pointers-rest}

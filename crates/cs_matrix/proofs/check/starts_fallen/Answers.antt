@@ -1,9 +1,8 @@
 -- `starts_fallen`: the loop of proofs/Falling.antt that counts. Assumes nothing.
 use mathlib.Core.Path.{sym, ◌∙◌}
-use mathlib.Core.Logic.{⊎_elim}
 use native.Mathlib.Omega.{arith}
 use Rattle.cs_matrix.proofs.Pointers.{between}
-use Rattle.cs_matrix.specs.Falls.{start_falls, starts_fallen}
+use Rattle.cs_matrix.specs.Falls.{starts_fallen}
 use Rattle.cs_matrix.proofs.Falling.{counting_start, counting_holds, counting_fails, counting_most, counting_done}
 use Rattle.cs_matrix.proofs.check.starts_fallen.Goals as goal
 use Rattle.cs_matrix.proofs.check.starts_fallen.Goals.{else-start_falls, then-start_falls}

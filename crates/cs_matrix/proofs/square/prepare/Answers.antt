@@ -1,5 +1,4 @@
 -- `prepare` meets its contract. Assumes nothing.
-use mathlib.Core.Path.{refl}
 use Rattle.cs_matrix.proofs.Squaring.{prepare_refused, larger_small, prepare_6, prepare_0}
 use Rattle.lists.specs.Calls.{scratch}
 use native.Mathlib.Omega.{arith}

@@ -1,6 +1,6 @@
 -- `read_column` meets its contract. Assumes nothing.
 use Rattle.cs_tree.proofs.Aiming.{backing_reads, backing_none}
-use Rattle.std.proofs.Common.{sym, ⊎_elim, true≢false, arith, eqb-true}
+use Rattle.std.proofs.Common.{sym, true≢false, arith, eqb-true}
 use Rattle.cs_tree.proofs.Past.{backing_past}
 use Rattle.cs_tree.proofs.Backward.{backing_start, backing_turn, backing_done}
 use Rattle.lists.proofs.Laying.{part_long}
@@ -24,8 +24,9 @@ loop-q-preserved c = backing_turn c.loop-q.invariant c.loop-q-test.true c.read_r
 
 pub returns : goal.returns
 returns c = elim c.loop-q-test.branch [
-        else-loop-q-test w ↦
-        (λ z. backing_done c.loop-q.invariant w.loop-q-test.false (eqb-true _ _ z), λ e. backing_none c.loop-q.invariant e w.loop-q-test.false)
-      | then-loop-q-test+then-row-k w ↦
-        let v = backing_past c.loop-q.invariant c.requires.3 w.if-row-k.true in
-        (λ z. backing_done v (omega arith) (eqb-true _ _ z), λ e. backing_none v e (omega arith)) ]
+  | else-loop-q-test w ↦
+      (λ z. backing_done c.loop-q.invariant w.loop-q-test.false (eqb-true _ _ z), λ e. backing_none c.loop-q.invariant e w.loop-q-test.false)
+  | then-loop-q-test+then-row-k w ↦
+      let v = backing_past c.loop-q.invariant c.requires.3 w.if-row-k.true in
+      (λ z. backing_done v (omega arith) (eqb-true _ _ z), λ e. backing_none v e (omega arith))
+]

@@ -1,7 +1,7 @@
 -- `tree_column` meets its contract. Assumes nothing.
 use Rattle.cs_tree.proofs.Climbing.{climbing_start, climbing_up, climbing_next, climbing_root, climbing_end, rows_start, rows-turn, rows-done}
 use Rattle.cs_tree.proofs.Past.{rows_past}
-use Rattle.std.proofs.Common.{⊎_elim, arith}
+use Rattle.std.proofs.Common.{arith}
 use Rattle.cs_pattern.proofs.tree.tree_column.Goals as goal
 use Rattle.cs_pattern.proofs.tree.tree_column.Goals.{else-climb-test, then-climb-test+then-a}
 

@@ -1,5 +1,4 @@
 -- `add_column`: the loop of proofs/Meeting.antt. Assumes nothing.
-use mathlib.Core.Logic.{⊎_elim}
 use mathlib.Core.Path.{refl, sym}
 use native.Mathlib.Omega.{arith}
 use Rattle.cs_product.proofs.Meeting.{adding_start, adding_again, adding_new, adding_done, many_small, row_below, in_vals, r_in_x, r_in_mark, count-in_met}

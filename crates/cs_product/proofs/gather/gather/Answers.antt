@@ -1,5 +1,4 @@
 -- `gather`: the loop of proofs/Draining.antt. Assumes nothing.
-use mathlib.Core.Logic.{⊎_elim}
 use mathlib.Core.Path.{sym}
 use native.Mathlib.Omega.{arith}
 use Rattle.cs_product.proofs.Draining.{gathering_start, gathering_small, gathering_i, gathering_v, gathering_on, gathering_off, gathering_done, at-in_i, at-in_v, r_in_x}

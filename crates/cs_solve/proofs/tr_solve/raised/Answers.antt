@@ -1,5 +1,4 @@
 -- `raised`: the loop of proofs/Steps.antt. Assumes nothing.
-use mathlib.Core.Logic.{⊎_elim}
 use native.Mathlib.Omega.{arith}
 use Rattle.cs_solve.proofs.Steps.{raising_start, raising_row, raising_set, raising_above, raising_end}
 use Rattle.cs_solve.proofs.tr_solve.raised.Goals as goal

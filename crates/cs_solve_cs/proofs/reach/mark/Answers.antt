@@ -1,7 +1,5 @@
 -- `mark`: the loop of proofs/Marking.antt. Assumes nothing.
-use mathlib.Core.Logic.{⊎_elim}
 use native.Mathlib.Omega.{arith}
-use borrow.Author.Tests.{ltb-false}
 use Rattle.cs_solve_cs.proofs.Marking.{marking_start, marking_set, marking_below, marking_out, marking_end}
 use Rattle.cs_solve_cs.proofs.reach.mark.Goals as goal
 use Rattle.cs_solve_cs.proofs.reach.mark.Goals.{else-from-r, else-from-r-via-else-from-r, else-from-r-via-then-from-r+else-r-w, then-from-r+then-r-w}
@@ -14,10 +12,12 @@ loop-k-smaller c = omega (arith, c.loop-k-test.true)
 
 pub loop-k-preserved : goal.loop-k-preserved
 loop-k-preserved c = let w = c.loop-k.invariant in let g = c.loop-k-test.true in let e = c.wide-r.ensures.0 in elim c.if-from-r.branch [
-        then-from-r+then-r-w t ↦ rw t.w-is (marking_set w g e t.if-from-r.true)
-      | else-from-r u ↦ rw u.w-is (elim u.else-from-r.branch [
-            else-from-r-via-then-from-r+else-r-w s ↦ marking_out w g e s.if-r-w.false
-          | else-from-r-via-else-from-r s ↦ marking_below w g e s.if-from-r.false ]) ]
+  | then-from-r+then-r-w t ↦ rw t.w-is (marking_set w g e t.if-from-r.true)
+  | else-from-r u ↦ rw u.w-is (elim u.else-from-r.branch [
+    | else-from-r-via-then-from-r+else-r-w s ↦ marking_out w g e s.if-r-w.false
+    | else-from-r-via-else-from-r s ↦ marking_below w g e s.if-from-r.false
+  ])
+]
 
 pub shape_of-w : goal.shape_of-w
 shape_of-w c = c.loop-k.invariant.long

@@ -1,6 +1,5 @@
 -- `reach`: the loop of proofs/Reaching.antt. Assumes nothing.
 use mathlib.Core.Path.{sym, ap, ◌∙◌}
-use mathlib.Core.Logic.{⊎_elim}
 use native.Mathlib.Omega.{arith}
 use lib.ListN.{length, length-replicate}
 use Rattle.cs_solve_cs.proofs.Reaching.{reaching_start, reaching_on, reaching_off, seen_before, seen_new, seen_not, reaching_end, count_small}
@@ -50,17 +49,20 @@ loop-j-preserved c =
     let r = c.loop-j.invariant in
     let h = c.loop-j-test.true in
     elim c.if-w-j-ne0.branch [
-        then-w-j-ne0 t ↦
-        let b = handed r.valid h t.wide-a.ensures.0 t.wide-e.ensures.0 in
-        rw (t.w-is, t.count-is, t.lacking-is)
-        (reaching_on r h t.if-w-j-ne0.true b
-        (elim t.if-n-lacking.branch [
-            then-n-lacking+then-value_at u ↦ rw u.lacking-is (seen_new r h b u.value_at.ensures u.if-n-lacking.true u.if-value_at.true)
-          | else-n-lacking u ↦ rw u.lacking-is (elim u.else-n-lacking.branch [
-                else-n-lacking-via-then-n-lacking+else-value_at s ↦ seen_not r h b s.value_at.ensures s.if-value_at.false
-              | else-n-lacking-via-else-n-lacking s ↦ seen_before r h s.if-n-lacking.false ]) ])
-        t.mark-then-w-j-ne0.ensures)
-      | else-w-j-ne0 t ↦ rw (t.w-is, t.count-is, t.lacking-is) (reaching_off r h t.if-w-j-ne0.false) ]
+      | then-w-j-ne0 t ↦
+          let b = handed r.valid h t.wide-a.ensures.0 t.wide-e.ensures.0 in
+          rw (t.w-is, t.count-is, t.lacking-is)
+          (reaching_on r h t.if-w-j-ne0.true b
+          (elim t.if-n-lacking.branch [
+            | then-n-lacking+then-value_at u ↦ rw u.lacking-is (seen_new r h b u.value_at.ensures u.if-n-lacking.true u.if-value_at.true)
+            | else-n-lacking u ↦ rw u.lacking-is (elim u.else-n-lacking.branch [
+              | else-n-lacking-via-then-n-lacking+else-value_at s ↦ seen_not r h b s.value_at.ensures s.if-value_at.false
+              | else-n-lacking-via-else-n-lacking s ↦ seen_before r h s.if-n-lacking.false
+            ])
+          ])
+          t.mark-then-w-j-ne0.ensures)
+      | else-w-j-ne0 t ↦ rw (t.w-is, t.count-is, t.lacking-is) (reaching_off r h t.if-w-j-ne0.false)
+    ]
 
 pub shape_of-w : goal.shape_of-w
 shape_of-w c = c.loop-j.invariant.long ∙ sym (ap length c.requires.1 ∙ length-replicate _ _)

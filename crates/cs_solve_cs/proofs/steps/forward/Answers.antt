@@ -1,5 +1,4 @@
 -- `forward`: the loop of proofs/Stepping.antt. Assumes nothing.
-use mathlib.Core.Logic.{⊎_elim}
 use native.Mathlib.Omega.{arith}
 use Rattle.cs_solve_cs.proofs.Stepping.{i_long, v_long, serving_start, serving_on, serving_off, serving_end, value_in, out_i, out_v}
 use Rattle.cs_solve.proofs.Columns.{handed, j_small}

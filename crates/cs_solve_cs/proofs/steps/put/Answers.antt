@@ -1,5 +1,5 @@
 -- `put`: the loop of proofs/Stepping.antt. Assumes nothing.
-use mathlib.Core.Logic.{inl, inr, ⊎_elim}
+use mathlib.Core.Logic.{inl, inr}
 use native.Mathlib.Omega.{arith}
 use borrow.Author.Tests.{ltb-true}
 use Rattle.lists.proofs.Pairs.{paired-end}

@@ -1,7 +1,6 @@
 -- `count_rows`: the loop of proofs/Merged.antt. Assumes nothing.
-use mathlib.Core.Logic.{⊎_elim, inl, inr}
+use mathlib.Core.Logic.{inl, inr}
 use native.Mathlib.Omega.{arith}
-use borrow.Author.Tests.{ltb-true}
 use Rattle.cs_columns.proofs.Merging.{first-in, second_in, both_first}
 use Rattle.cs_sum.proofs.Merged.{counting_start, counting_small, counting_first, counting_second, counting_both, counting_done}
 use Rattle.cs_sum.proofs.merge.count_rows.Goals as goal
@@ -25,10 +24,16 @@ loop-ka-smaller c =
     let er = c.row_at-r.ensures in
     let es = c.row_at-s.ensures in
     elim c.if-r-s.branch [
-        then-r-s t ↦ omega (arith, t.ka-is, t.kb-is, first-in v.merging er es t.if-r-s.true)
+      | then-r-s t ↦ omega (arith, t.ka-is, t.kb-is, first-in v.merging er es t.if-r-s.true)
       | else-r-s+then-s-r t ↦ omega (arith, t.ka-is, t.kb-is, second_in v.merging er es t.if-s-r.true)
-      | else-r-s+else-s-r t ↦ omega (arith, t.ka-is, t.kb-is, both_first v.merging er es (omega (arith, t.if-r-s.false, t.if-s-r.false))
-            (elim c.if-ka-ai.branch [ then-ka-ai t ↦ inl t.if-ka-ai.true | else-ka-ai+then-kb-bi t ↦ inr t.if-kb-bi.true ])) ]
+      | else-r-s+else-s-r t ↦ omega (
+        arith,
+        t.ka-is,
+        t.kb-is,
+        both_first v.merging er es (omega (arith, t.if-r-s.false, t.if-s-r.false))
+            (elim c.if-ka-ai.branch [ then-ka-ai t ↦ inl t.if-ka-ai.true | else-ka-ai+then-kb-bi t ↦ inr t.if-kb-bi.true ]),
+      )
+    ]
 
 pub loop-ka-preserved : goal.loop-ka-preserved
 loop-ka-preserved c =
@@ -36,10 +41,11 @@ loop-ka-preserved c =
     let er = c.row_at-r.ensures in
     let es = c.row_at-s.ensures in
     elim c.if-r-s.branch [
-        then-r-s t ↦ rw (t.ka-is, t.kb-is) (counting_first v er es t.if-r-s.true)
+      | then-r-s t ↦ rw (t.ka-is, t.kb-is) (counting_first v er es t.if-r-s.true)
       | else-r-s+then-s-r t ↦ rw (t.ka-is, t.kb-is) (counting_second v er es t.if-s-r.true)
       | else-r-s+else-s-r t ↦ rw (t.ka-is, t.kb-is) (counting_both v er es t.if-s-r.false t.if-r-s.false
-            (elim c.if-ka-ai.branch [ then-ka-ai t ↦ inl t.if-ka-ai.true | else-ka-ai+then-kb-bi t ↦ inr t.if-kb-bi.true ])) ]
+          (elim c.if-ka-ai.branch [ then-ka-ai t ↦ inl t.if-ka-ai.true | else-ka-ai+then-kb-bi t ↦ inr t.if-kb-bi.true ]))
+    ]
 
 pub returns : goal.returns
 returns c = counting_done c.loop-ka.invariant c.if-ka-ai.false c.if-kb-bi.false

@@ -1,7 +1,6 @@
 -- `walk`: the loop of proofs/Merged.antt. Assumes nothing.
-use mathlib.Core.Logic.{⊎_elim, inl, inr}
+use mathlib.Core.Logic.{inl, inr}
 use native.Mathlib.Omega.{arith}
-use borrow.Author.Tests.{ltb-true}
 use Rattle.cs_columns.proofs.Merging.{first-in, second_in, both_first}
 use Rattle.cs_sum.proofs.Merged.{writing_small, first_i, first_v, first-value, second_i, second_v, second_value, both_i, both_v, both-value, both-value_too, writing_i, writing_v, writing_done, walking_start, walking_first, walking_second, walking_both}
 use Rattle.cs_sum.proofs.merge.walk.Goals as goal
@@ -109,20 +108,27 @@ loop-ka-smaller c =
     let er = c.loop-ka.invariant.r_is in
     let es = c.loop-ka.invariant.s_is in
     elim c.if-r-s.branch [
-        then-r-s t ↦ omega (arith, t.ka-is, t.kb-is, first-in v er es t.if-r-s.true)
+      | then-r-s t ↦ omega (arith, t.ka-is, t.kb-is, first-in v er es t.if-r-s.true)
       | else-r-s+then-s-r t ↦ omega (arith, t.ka-is, t.kb-is, second_in v er es t.if-s-r.true)
-      | else-r-s+else-s-r t ↦ omega (arith, t.ka-is, t.kb-is, both_first v er es (omega (arith, t.if-r-s.false, t.if-s-r.false))
-            (elim c.if-ka-ai.branch [ then-ka-ai t ↦ inl t.if-ka-ai.true | else-ka-ai+then-kb-bi t ↦ inr t.if-kb-bi.true ])) ]
+      | else-r-s+else-s-r t ↦ omega (
+        arith,
+        t.ka-is,
+        t.kb-is,
+        both_first v er es (omega (arith, t.if-r-s.false, t.if-s-r.false))
+            (elim c.if-ka-ai.branch [ then-ka-ai t ↦ inl t.if-ka-ai.true | else-ka-ai+then-kb-bi t ↦ inr t.if-kb-bi.true ]),
+      )
+    ]
 
 pub loop-ka-preserved : goal.loop-ka-preserved
 loop-ka-preserved c =
     let w = c.loop-ka.invariant in
     elim c.if-r-s.branch [
-        then-r-s t ↦ rw (t.oi-is, t.ov-is, t.ka-is, t.kb-is, t.r-is, t.s-is) (walking_first _ _ _ _ _ _ w t.if-r-s.true t.row_at-r-then-r-s.ensures)
+      | then-r-s t ↦ rw (t.oi-is, t.ov-is, t.ka-is, t.kb-is, t.r-is, t.s-is) (walking_first _ _ _ _ _ _ w t.if-r-s.true t.row_at-r-then-r-s.ensures)
       | else-r-s+then-s-r t ↦ rw (t.oi-is, t.ov-is, t.ka-is, t.kb-is, t.r-is, t.s-is) (walking_second _ _ _ _ _ _ w t.if-s-r.true t.row_at-s-then-s-r.ensures)
       | else-r-s+else-s-r t ↦ rw (t.oi-is, t.ov-is, t.ka-is, t.kb-is, t.r-is, t.s-is) (walking_both _ _ _ _ _ _ w t.if-s-r.false t.if-r-s.false
-            (elim c.if-ka-ai.branch [ then-ka-ai t ↦ inl t.if-ka-ai.true | else-ka-ai+then-kb-bi t ↦ inr t.if-kb-bi.true ])
-            t.row_at-r-else-s-r.ensures t.row_at-s-else-s-r.ensures) ]
+          (elim c.if-ka-ai.branch [ then-ka-ai t ↦ inl t.if-ka-ai.true | else-ka-ai+then-kb-bi t ↦ inr t.if-kb-bi.true ])
+          t.row_at-r-else-s-r.ensures t.row_at-s-else-s-r.ensures)
+    ]
 
 pub shape_of-oi : goal.shape_of-oi
 shape_of-oi c = writing_i _ _ _ _ _ _ c.loop-ka.invariant.writing

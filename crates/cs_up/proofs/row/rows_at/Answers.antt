@@ -1,5 +1,4 @@
 -- `rows_at`: the loop of proofs/Rowing.antt. Assumes nothing.
-use mathlib.Core.Logic.{⊎_elim}
 use mathlib.Core.Path.{refl, ◌∙◌}
 use native.Mathlib.Omega.{arith}
 use Rattle.cs_up.proofs.Rowing.{rowing_start, rowing_pass, rowing_next, rowing_end, row-in-next, row-in_lp, place_few, row_reads}

@@ -1,5 +1,5 @@
 -- `all_below`: every one is looked at, and `bad` tells. Assumes nothing.
-use Rattle.std.proofs.Common.{⊎_elim, le-ltb, lt-ltb}
+use Rattle.std.proofs.Common.{le-ltb, lt-ltb}
 use Rattle.lists.proofs.Folds.{telling_start, telling_holds, telling_fails, telling_done}
 use Rattle.lists.specs.Order.{all_below}
 use Rattle.lists.proofs.order.all_below.Goals as goal

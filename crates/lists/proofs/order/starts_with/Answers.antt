@@ -1,7 +1,7 @@
 -- `starts_with`: the laws of proofs/Matching.antt. Assumes nothing.
 use Rattle.lists.proofs.Matching.{same-told, starts-short}
 use Rattle.lists.proofs.Folds.{telling_start, telling_holds, telling_fails, telling_done}
-use Rattle.std.proofs.Common.{◌∙◌, ⊎_elim, eq-eqb, ne_eqb}
+use Rattle.std.proofs.Common.{◌∙◌, eq-eqb, ne_eqb}
 use Rattle.lists.proofs.order.starts_with.Goals as goal
 use Rattle.lists.proofs.order.starts_with.Goals.{else-a-q, then-a-q}
 

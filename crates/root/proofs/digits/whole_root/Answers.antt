@@ -1,5 +1,4 @@
 -- `root::digits::whole_root` meets its contract: each turn keeps `Turn` of `Turns.antt`. Assumes nothing.
-use mathlib.Core.Logic.{⊎_elim}
 use Prim.Native.Nat.{◌<◌}
 use native.Mathlib.Omega.{arith}
 use Rattle.root.proofs.digits.Turns.{start, root-lt, fewer, same, found}
