@@ -25,7 +25,7 @@ use std::io;
 use std::io::Read;
 
 // What any call answers: its number, and the column and the pivot of those that have one.
-#[derive(Drop)]
+#[derive(Clone, Copy)]
 pub struct Answer {
     pub number: u32,
     pub column: u32,
