@@ -9,6 +9,7 @@ ghost use Rattle.little.specs.Little.{little, bytes};
 use little::{put, u64_at};
 use reading::fill;
 use std::io;
+use std::io::Read;
 
 // A pattern's eight bytes become those of its root.
 fn answer(word: &mut [u8])
@@ -18,18 +19,26 @@ fn answer(word: &mut [u8])
     put(root::root_bits(u64_at(word, 0)), 8, 0, word);
 }
 
+// Answers one pattern, and says whether to go on.
+fn turn<R: Read>(rt: &impl Print, input: &mut R) -> io::Result<bool> {
+    let mut word = [0u8; 8];
+    let (n, ended) = fill(input, &mut word);
+    ended?;
+    if n < 8 {
+        return Ok(false);
+    }
+    answer(&mut word);
+    rt.write_all(&word)?;
+    Ok(true)
+}
+
 // A proved loop has to end, and nothing says that the input does: the turns are counted, up to a number that no run reaches.
 fn main(rt: HostRuntime) -> io::Result<()> {
     let mut input = rt.stdin();
     for _ in 0..u64::MAX {
-        let mut word = [0u8; 8];
-        let (n, ended) = fill(&mut input, &mut word);
-        ended?;
-        if n < 8 {
+        if !turn(&rt, &mut input)? {
             break;
         }
-        answer(&mut word);
-        rt.write_all(&word)?;
     }
     Ok(())
 }
