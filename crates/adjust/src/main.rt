@@ -9,7 +9,7 @@ fn main(rt: HostRuntime) -> io::Result<()> {
     let mut input: [u8; 40479] = [0; 40479];
     // An XV for each of 256 rows.
     let mut out: [u8; 3584] = [0; 3584];
-    let n = fill(&mut rt.stdin(), &mut input);
+    let (n, _) = fill(&mut rt.stdin(), &mut input);
     let r = job::job::job(&input[..n], &mut out);
     let end = r.written;
     rt.write_all(&out[..end])

@@ -5,7 +5,7 @@ pub mod judge;
 
 // A factoring's answer: its number, and with 11 the column and its pivot, else 0 and +0.0.
 #[repr(C)]
-#[derive(Drop)]
+#[derive(Clone, Copy)]
 pub struct Factored {
     pub number: u32,
     pub column: u32,

@@ -5,7 +5,7 @@ ghost use Rattle.cs_product.specs.Steps.{Within, Spanned};
 use lists::numbers::{larger, smaller, wide};
 
 // Rows from lo on and below hi; work is how many entries of A are taken.
-#[derive(Drop)]
+#[derive(Clone, Copy)]
 pub struct Span {
     pub lo: usize,
     pub hi: usize,

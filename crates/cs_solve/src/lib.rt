@@ -8,7 +8,7 @@ pub mod tr_solve;
 
 // A solve's answer: its number, and with 10 the column, else 0.
 #[repr(C)]
-#[derive(Drop)]
+#[derive(Clone, Copy)]
 pub struct Solved {
     pub number: u32,
     pub column: u32,

@@ -24,7 +24,7 @@ fn mark(from: usize, rows: &[u32], w: &mut [u32])
 }
 
 // How many columns are reached, and the lowest of them whose diagonal is absent or zero, or n.
-#[derive(Drop)]
+#[derive(Clone, Copy)]
 pub struct Swept {
     pub count: usize,
     pub lacking: usize,

@@ -29,7 +29,9 @@ pub extern "C" fn siwkatenor_product(
         let b = matrix bnrows bncols bp.now bi.now bv.now in
         let old = lent (stored op.old oi.old ov.old) (scratch w1.old w2.old w3.old x.old) in
         let new = lent (stored op.new oi.new ov.new) (scratch w1.new w2.new w3.new x.new) in
-        (result ≡ number a b old) × (new ≡ leaves result (needed_two a.pattern b.pattern) (written (productOf a b) old.out) old) × (result ≡ 0 → Valid (productOf a b)) }
+        (result ≡ number a b old)
+        × (new ≡ leaves result (needed_two a.pattern b.pattern) (written (productOf a b) old.out) old)
+        × (result ≡ 0 → Valid (productOf a b)) }
 {
     cs_product::product::product(
         nrows, ncols, ap, ai, av, bnrows, bncols, bp, bi, bv, op, oi, ov, w1, w2, w3, x,

@@ -40,11 +40,11 @@ fn show(rt: &impl Print, bytes: &[u8]) -> io::Result<()> {
     rt.write_all(b"\n")
 }
 
-// Answers what a file holds.
+// Answers what a file holds. A read that fails ends it.
 fn answer<R: Read>(rt: &impl Print, file: &mut R) -> io::Result<()> {
     let mut input: [u8; 40479] = [0; 40479];
     let mut out: [u8; 3584] = [0; 3584];
-    let n = fill(file, &mut input);
+    let (n, _) = fill(file, &mut input);
     let r = job::job::job(&input[..n], &mut out);
     let end = r.written;
     show(rt, &out[..end])

@@ -25,7 +25,7 @@ use std::io;
 use std::io::Read;
 
 // What any call answers: its number, and the column and the pivot of those that have one.
-#[derive(Drop)]
+#[derive(Clone, Copy)]
 pub struct Answer {
     pub number: u32,
     pub column: u32,
@@ -272,17 +272,17 @@ fn load<R: Read>(
     w1: &mut [u32],
     w2: &mut [u32],
     w3: &mut [u32],
-) {
-    read_words(input, s0);
-    read_words(input, s1);
-    read_words(input, s2);
-    read_words(input, s3);
-    read_words(input, s4);
-    read_words(input, s5);
-    read_words(input, s6);
-    read_words(input, w1);
-    read_words(input, w2);
-    read_words(input, w3);
+) -> io::Result<()> {
+    read_words(input, s0)?;
+    read_words(input, s1)?;
+    read_words(input, s2)?;
+    read_words(input, s3)?;
+    read_words(input, s4)?;
+    read_words(input, s5)?;
+    read_words(input, s6)?;
+    read_words(input, w1)?;
+    read_words(input, w2)?;
+    read_words(input, w3)
 }
 
 fn save(
@@ -310,11 +310,17 @@ fn save(
     write_words(rt, w3)
 }
 
-fn load_values<R: Read>(input: &mut R, v: &mut [f64], b: &mut [f64], o: &mut [f64], x: &mut [f64]) {
-    read_values(input, v);
-    read_values(input, b);
-    read_values(input, o);
-    read_values(input, x);
+fn load_values<R: Read>(
+    input: &mut R,
+    v: &mut [f64],
+    b: &mut [f64],
+    o: &mut [f64],
+    x: &mut [f64],
+) -> io::Result<()> {
+    read_values(input, v)?;
+    read_values(input, b)?;
+    read_values(input, o)?;
+    read_values(input, x)
 }
 
 fn save_values(rt: &impl Print, v: &[f64], b: &[f64], o: &[f64], x: &[f64]) -> io::Result<()> {
@@ -344,8 +350,8 @@ fn serve<R: Read>(
     o: &mut [f64],
     x: &mut [f64],
 ) -> io::Result<()> {
-    load(input, s0, s1, s2, s3, s4, s5, s6, w1, w2, w3);
-    load_values(input, v, b, o, x);
+    load(input, s0, s1, s2, s3, s4, s5, s6, w1, w2, w3)?;
+    load_values(input, v, b, o, x)?;
     let a = call(h, s0, s1, s2, s3, s4, s5, s6, w1, w2, w3, v, b, o, x);
     save_answer(rt, a.number, a.column, a.pivot)?;
     save(rt, s0, s1, s2, s3, s4, s5, s6, w1, w2, w3)?;
@@ -355,7 +361,7 @@ fn serve<R: Read>(
 // One case; whether there was one.
 fn turn<R: Read>(rt: &impl Print, input: &mut R) -> io::Result<bool> {
     let mut h = [0u32; 20];
-    if !read_head(input, &mut h) {
+    if !read_head(input, &mut h)? {
         return Ok(false);
     }
     let mut s0 = [0u32; 4096];

@@ -71,11 +71,12 @@ fn of_values(a: &[f64], raw: &mut [u8]) {
     }
 }
 
-fn read<R: Read>(input: &mut R, n: usize, raw: &mut [u8]) {
+fn read<R: Read>(input: &mut R, n: usize, raw: &mut [u8]) -> io::Result<()> {
     if n == 0 || n > raw.len() {
-        return;
+        return Ok(());
     }
-    fill(input, &mut raw[0..n]);
+    let (_, ended) = fill(input, &mut raw[0..n]);
+    ended
 }
 
 fn write(rt: &impl Print, n: usize, raw: &[u8]) -> io::Result<()> {
@@ -85,16 +86,18 @@ fn write(rt: &impl Print, n: usize, raw: &[u8]) -> io::Result<()> {
     rt.write_all(&raw[0..n])
 }
 
-pub fn read_words<R: Read>(input: &mut R, out: &mut [u32]) {
+pub fn read_words<R: Read>(input: &mut R, out: &mut [u32]) -> io::Result<()> {
     let mut raw = [0u8; 16384];
-    read(input, 4 * moved(out.len()), &mut raw);
+    read(input, 4 * moved(out.len()), &mut raw)?;
     words_of(&raw, out);
+    Ok(())
 }
 
-pub fn read_values<R: Read>(input: &mut R, out: &mut [f64]) {
+pub fn read_values<R: Read>(input: &mut R, out: &mut [f64]) -> io::Result<()> {
     let mut raw = [0u8; 32768];
-    read(input, 8 * moved(out.len()), &mut raw);
+    read(input, 8 * moved(out.len()), &mut raw)?;
     values_of(&raw, out);
+    Ok(())
 }
 
 pub fn write_words(rt: &impl Print, a: &[u32]) -> io::Result<()> {
@@ -110,11 +113,12 @@ pub fn write_values(rt: &impl Print, a: &[f64]) -> io::Result<()> {
 }
 
 // The twenty numbers that a case begins with; whether they are all there.
-pub fn read_head<R: Read>(input: &mut R, h: &mut [u32]) -> bool {
+pub fn read_head<R: Read>(input: &mut R, h: &mut [u32]) -> io::Result<bool> {
     let mut raw = [0u8; 80];
-    let got = fill(input, &mut raw);
+    let (got, ended) = fill(input, &mut raw);
+    ended?;
     words_of(&raw, h);
-    got == 80
+    Ok(got == 80)
 }
 
 // The answer: number, column, pivot.

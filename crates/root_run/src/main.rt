@@ -23,7 +23,9 @@ fn main(rt: HostRuntime) -> io::Result<()> {
     let mut input = rt.stdin();
     for _ in 0..u64::MAX {
         let mut word = [0u8; 8];
-        if fill(&mut input, &mut word) < 8 {
+        let (n, ended) = fill(&mut input, &mut word);
+        ended?;
+        if n < 8 {
             break;
         }
         answer(&mut word);
