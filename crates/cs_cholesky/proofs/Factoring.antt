@@ -11,14 +11,18 @@ use Rattle.cs_cholesky.specs.Factor.{Step, factored, factor}
 
 module _ (step : ℕ → List (List Float) → Step) where
   -- it ends with 0, or stops with 11
-  pub factor-ends : (d k : ℕ) (done : List (List Float)) → ((factor step d k done).answer ≡ factored 0 0 none) ⊎ ((factor step d k done).answer.number ≡ 11)
+  pub factor-ends : (d k : ℕ) (done : List (List Float)) → ((factor step d k done).answer ≡ factored 0 0 none) ⊎
+      ((factor step d k done).answer.number ≡ 11)
   unfolding factor
   factor-ends zero k done = inl refl
   factor-ends (suc d) k done = go (lt none (step k done).pivot) (factor-ends d (k + 1) (step k done).columns)
     where
-      go : (b : Bool) → ((factor step d (k + 1) (step k done).columns).answer ≡ factored 0 0 none) ⊎ ((factor step d (k + 1) (step k done).columns).answer.number ≡ 11)
-          → ((cond b (factor step d (k + 1) (step k done).columns) (record { answer = factored 11 k (step k done).pivot; columns = [] })).answer ≡ factored 0 0 none)
-          ⊎ ((cond b (factor step d (k + 1) (step k done).columns) (record { answer = factored 11 k (step k done).pivot; columns = [] })).answer.number ≡ 11)
+      go : (b : Bool) → ((factor step d (k + 1) (step k done).columns).answer ≡ factored 0 0 none) ⊎
+          ((factor step d (k + 1) (step k done).columns).answer.number ≡ 11)
+          → ((cond b (factor step d (k + 1) (step k done).columns) (record { answer = factored 11 k (step k done).pivot; columns = [] })).answer
+          ≡ factored 0 0 none)
+          ⊎ ((cond b (factor step d (k + 1) (step k done).columns)
+          (record { answer = factored 11 k (step k done).pivot; columns = [] })).answer.number ≡ 11)
       go true h = h
       go false h = inr refl
 
@@ -34,11 +38,13 @@ module _ (step : ℕ → List (List Float) → Step) where
     left_over : k < n → factor step n 0 [] ≡ factor step (suc (n - (k + 1))) k done
     left_over h = let e : n - k ≡ suc (n - (k + 1)) = omega arith in w.rest ∙ ap (λ (d : ℕ). factor step d k done) e
 
-    pub reached-turn : {pivot : Float} {more : List (List Float)} → k < n → pivot ≡ (step k done).pivot → lt none pivot ≡ true → more ≡ (step k done).columns → Reached n (k + 1) more
+    pub reached-turn : {pivot : Float} {more : List (List Float)} → k < n → pivot ≡ (step k done).pivot → lt none pivot ≡ true →
+        more ≡ (step k done).columns → Reached n (k + 1) more
     unfolding factor
     reached-turn h p t m = record { within = omega arith; rest = left_over h ∙ (rw (← p, t, ← m)) }
 
-    pub reached_stop : {pivot : Float} → k < n → pivot ≡ (step k done).pivot → lt none pivot ≡ false → factor step n 0 [] ≡ record { answer = factored 11 k pivot; columns = [] }
+    pub reached_stop : {pivot : Float} → k < n → pivot ≡ (step k done).pivot → lt none pivot ≡ false → factor step n 0 []
+        ≡ record { answer = factored 11 k pivot; columns = [] }
     unfolding factor
     reached_stop h p t = left_over h ∙ (rw (← p, t))
 

@@ -35,17 +35,24 @@ module _ (a : Matrix) (given : Analysis) (room : ℕ) (old : Scratch) where
   swapped = rw (or_swap (not (eqb (length a.pattern.p) (a.pattern.ncols + 1))) (not (eqb a.pattern.nrows a.pattern.ncols)) odd)
 
   -- values that are not as many as the rows
-  pub judge_2 : (length a.v ≡ length a.pattern.i → ⊥) → {r s : ℕ} → r ≡ lowest (judged_square a.pattern) → s ≡ lower r 2 → (s ≡ lowest (judged_factor a given room old)) × (old ≡ worked s (needed a.pattern) old)
+  pub judge_2 : (length a.v ≡ length a.pattern.i → ⊥) → {r s : ℕ} → r ≡ lowest (judged_square a.pattern) → s ≡ lower r 2 →
+      (s ≡ lowest (judged_factor a given room old)) × (old ≡ worked s (needed a.pattern) old)
   unfolding judged_factor worked
   judge_2 h {r} {s} e f =
       let t : odd ≡ true = ap not (ne_eqb (length a.pattern.i) (length a.v) (λ q. h (sym q))) in
       let l : lower r (lowest (disagree odd)) ≡ lower r 2 = rw t in
       let u : s ≡ lowest (judged_square_matrix a) =
-      f ∙ sym l ∙ ap (λ (k : ℕ). lower k (lowest (disagree odd))) e ∙ lowest-both 1 (judged_square a.pattern) (disagree odd) (omega arith) (from-square a.pattern) (from-disagree odd) ∙ ap lowest swapped in
+      f ∙ sym l ∙ ap (λ (k : ℕ). lower k (lowest (disagree odd))) e ∙ lowest-both 1 (judged_square a.pattern) (disagree odd) (omega arith)
+      (from-square a.pattern) (from-disagree odd) ∙ ap lowest swapped in
       let z : s ≡ 0 → ⊥ = λ q. omega (arith, (lower-none r 2 (sym f ∙ q)).1) in
       let m : s < 7 = omega (arith, below_7 (judged_square_matrix a) (early_matrix a)) in
       (first (judged_square_matrix a) _ u z, rw (lt-ltb 0 s (omega (arith, z)), lt-ltb s 7 m))
 
   pub judge_rest : length a.v ≡ length a.pattern.i → {r : ℕ} → r ≡ number a.pattern room given old → r ≡ lowest (judged_factor a given room old)
   unfolding number judged_factor judged_square judged_square_matrix judged judged_pattern both
-  judge_rest h e = rw (eq-eqb (length a.pattern.i) (length a.v) (sym h), or-drop (not (eqb (length a.pattern.p) (a.pattern.ncols + 1))) (not (eqb a.pattern.nrows a.pattern.ncols)), or-drop (too_large a.pattern) false) e
+  judge_rest h e = rw (
+    eq-eqb (length a.pattern.i) (length a.v) (sym h),
+    or-drop (not (eqb (length a.pattern.p) (a.pattern.ncols + 1)))
+        (not (eqb a.pattern.nrows a.pattern.ncols)),
+    or-drop (too_large a.pattern) false,
+  ) e

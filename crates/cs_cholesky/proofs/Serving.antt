@@ -49,21 +49,22 @@ laid us p i g h =
     }
 
 -- ---- the columns, by their pointers
-module _ {us : List (List ℕ)} {p i : List ℕ} (l : Laid us p i) {k a e : ℕ} (h : k < length us) (x : a ≡ get_or p k 0) (y : e ≡ get_or p (k + 1) 0) where
-  pub laid-size : e ≡ a + length (get_or us k [])
-  laid-size = omega (arith, l.pointed.at k (omega arith), l.pointed.at (k + 1) (omega arith), entries-more us k h)
+module _ {us : List (List ℕ)} {p i : List ℕ} (l : Laid us p i) {k a e : ℕ} (h : k < length us) (x : a ≡ get_or p k 0) (y : e ≡ get_or p (k + 1) 0)
+  where
+    pub laid-size : e ≡ a + length (get_or us k [])
+    laid-size = omega (arith, l.pointed.at k (omega arith), l.pointed.at (k + 1) (omega arith), entries-more us k h)
 
-  pub laid_end : e ≤ entries us
-  laid_end = omega (arith, l.pointed.at (k + 1) (omega arith), entries-part us (k + 1))
+    pub laid_end : e ≤ entries us
+    laid_end = omega (arith, l.pointed.at (k + 1) (omega arith), entries-part us (k + 1))
 
-  pub laid_inside : e ≤ length i
-  laid_inside = omega (arith, laid_end, l.inside)
+    pub laid_inside : e ≤ length i
+    laid_inside = omega (arith, laid_end, l.inside)
 
-  pub laid_order : a ≤ e
-  laid_order = omega (arith, laid-size)
+    pub laid_order : a ≤ e
+    laid_order = omega (arith, laid-size)
 
-  pub laid-part : part a e i ≡ get_or us k []
-  laid-part = rw (x, y) (l.column k h)
+    pub laid-part : part a e i ≡ get_or us k []
+    laid-part = rw (x, y) (l.column k h)
 
 -- ---- what is served
 pub record Passed (nrows n : ℕ) (p i : List ℕ) (v : List Float) (up ui lp li : List ℕ) (room : ℕ) (old : Scratch) : Type 0 where
@@ -114,7 +115,8 @@ module _ (nrows n : ℕ) (p i : List ℕ) (v : List Float) (tr up ui lp li : Lis
     fit : length C ≤ root
     fit = columns_fit is_valid.pattern
 
-    starting : (starts_with (tree C) tr ≡ true) × (starts_with (starts 0 (upper C)) up ≡ true) × (starts_with (flatten (upper C)) ui ≡ true) × (starts_with (starts 0 (lower C)) lp ≡ true) × (starts_with (flatten (lower C)) li ≡ true)
+    starting : (starts_with (tree C) tr ≡ true) × (starts_with (starts 0 (upper C)) up ≡ true) × (starts_with (flatten (upper C)) ui ≡ true) ×
+        (starts_with (starts 0 (lower C)) lp ≡ true) × (starts_with (flatten (lower C)) li ≡ true)
     unfolding same analysed
     starting =
         let z : same (analysed C) (analysis tr up ui lp li) ≡ true = rw columns_are at late_none.2 in
@@ -128,8 +130,10 @@ module _ (nrows n : ℕ) (p i : List ℕ) (v : List Float) (tr up ui lp li : Lis
     unfolding tight analysed
     sized =
         let z : tight room (analysed C) ≡ false = rw columns_are at late_none.1 in
-        let x = or-false (ltb 4194304 (length (flatten (upper C)))) _ z in
-        (omega (arith, ltb-false 4194304 (length (flatten (upper C))) x.0, length-laid (upper C)), omega (arith, ltb-false room (length (flatten (upper C))) x.1, length-laid (upper C)))
+        let x = or-false (ltb 4194304 (length (flatten (upper C)))) _ z in (
+          omega (arith, ltb-false 4194304 (length (flatten (upper C))) x.0, length-laid (upper C)),
+          omega (arith, ltb-false room (length (flatten (upper C))) x.1, length-laid (upper C)),
+        )
 
     pub passed : Passed nrows n p i v up ui lp li room old
     passed =

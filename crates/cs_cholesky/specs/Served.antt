@@ -17,7 +17,8 @@ pub record Laid (us : List (List ℕ)) (p i : List ℕ) : Type 0 where
 -- a matrix of n columns with its own analysis, and room for as many values as U has entries
 pub record Served (n : ℕ) (p i : List ℕ) (v : List Float) (up ui lp li : List ℕ) (room : ℕ) : Type 0 where
   pub valid : Valid (matrix n n p i v)
-  pub promised : Promised (columns (pattern n n p i)) (tree (columns (pattern n n p i))) (upper (columns (pattern n n p i))) (lower (columns (pattern n n p i)))
+  pub promised : Promised (columns (pattern n n p i)) (tree (columns (pattern n n p i))) (upper (columns (pattern n n p i)))
+      (lower (columns (pattern n n p i)))
   pub u_long : length (upper (columns (pattern n n p i))) ≡ n
   pub l_long : length (lower (columns (pattern n n p i))) ≡ n
   pub u_laid : Laid (upper (columns (pattern n n p i))) up ui

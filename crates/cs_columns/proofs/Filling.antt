@@ -102,7 +102,8 @@ module _ (nrows ncols : ℕ) (rows : ℕ → List ℕ) (vals : ℕ → List Floa
 
     -- the pointer of column j, and behind the last column
     pointers-more : (k : ℕ) → k < j + 1 → get_or (set p j at) k 0 ≡ length (joined rows k)
-    pointers-more k l = ⊎_elim (λ (q : k ≡ j). rw (q, get_or-set_same p j at 0 room_p) s.at_is) (λ (q : k < j). get_or-set_other p j k at 0 (λ e. omega arith) ∙ s.p_front k q) (eq-or-lt_of_le (omega arith))
+    pointers-more k l = ⊎_elim (λ (q : k ≡ j). rw (q, get_or-set_same p j at 0 room_p) s.at_is)
+        (λ (q : k < j). get_or-set_other p j k at 0 (λ e. omega arith) ∙ s.p_front k q) (eq-or-lt_of_le (omega arith))
 
     pointers-rest : (k : ℕ) → j + 1 ≤ k → get_or (set p j at) k 0 ≡ get_or p₀ k 0
     pointers-rest k l = get_or-set_other p j k at 0 (λ e. omega arith) ∙ s.p_rest k (omega arith)
@@ -118,7 +119,8 @@ module _ (nrows ncols : ℕ) (rows : ℕ → List ℕ) (vals : ℕ → List Floa
       pub room-all : at + length (rows j) ≤ length (joined rows ncols)
       room-all = omega (arith, s.at_is, length_more rows j, joined_grows rows (j + 1) ncols (omega arith))
 
-      pub filling_turn : {next : ℕ} {i' : List ℕ} {v' : List Float} → next ≡ at + length (rows j) → i' ≡ laid at i (rows j) → v' ≡ laid at v (vals j) → Filling p₀ i₀ v₀ (set p j at) i' v' next (j + 1)
+      pub filling_turn : {next : ℕ} {i' : List ℕ} {v' : List Float} → next ≡ at + length (rows j) → i' ≡ laid at i (rows j) →
+          v' ≡ laid at v (vals j) → Filling p₀ i₀ v₀ (set p j at) i' v' next (j + 1)
       filling_turn {next} e f g =
           record {
             ask = s.ask;
@@ -127,8 +129,10 @@ module _ (nrows ncols : ℕ) (rows : ℕ → List ℕ) (vals : ℕ → List Floa
             p_long = length-set p j at ∙ s.p_long;
             p_front = pointers-more;
             p_rest = pointers-rest;
-            i_is = f ∙ (rw (s.i_is, joined-more rows j) (laid-onto i₀ (joined rows j) (rows j) at s.at_is (omega (arith, s.ask.in_i, joined_grows rows j ncols s.within))));
-            v_is = g ∙ (rw (s.v_is, joined-more vals j) (laid-onto v₀ (joined vals j) (vals j) at (s.at_is ∙ vals_long j s.within) (omega (arith, s.ask.in_v, joined_grows rows j ncols s.within, vals_long j s.within))));
+            i_is = f ∙ (rw (s.i_is, joined-more rows j)
+                (laid-onto i₀ (joined rows j) (rows j) at s.at_is (omega (arith, s.ask.in_i, joined_grows rows j ncols s.within))));
+            v_is = g ∙ (rw (s.v_is, joined-more vals j) (laid-onto v₀ (joined vals j) (vals j) at (s.at_is ∙ vals_long j s.within)
+                (omega (arith, s.ask.in_v, joined_grows rows j ncols s.within, vals_long j s.within))));
           }
 
     pub filling_end : ncols ≤ j → stored (set p ncols at) i v ≡ written (with_columns nrows ncols rows vals) (stored p₀ i₀ v₀)

@@ -46,7 +46,8 @@ module _ {A : Type 0} (f : ℕ → List A) where
   after j (suc n) h =
       ⊎_elim
       (λ (e : j ≡ suc n). rw e (record { rest = []; is = sym (append-nil (joined f (suc n))) }))
-      (λ (l : j < suc n). let r = after j n (omega arith) in record { rest = r.rest ++ f n; is = ap (λ (t : List A). t ++ f n) r.is ∙ append_assoc (joined f j) r.rest (f n) })
+      (λ (l : j < suc n). let r = after j n (omega arith) in
+      record { rest = r.rest ++ f n; is = ap (λ (t : List A). t ++ f n) r.is ∙ append_assoc (joined f j) r.rest (f n) })
       (eq-or-lt_of_le h)
 
   pub joined_grows : (j n : ℕ) → j ≤ n → length (joined f j) ≤ length (joined f n)
@@ -74,7 +75,8 @@ module _ {A : Type 0} (f : ℕ → List A) where
       omega (arith, length-append (joined f n) (f n), s, joined-steps g n (λ j l. h j (omega arith)))
 
   -- what holds of every item of every column
-  pub in-joined : (P : A → Type 0) (z : A) (n : ℕ) → ((j : ℕ) → j < n → (k : ℕ) → k < length (f j) → P (get_or (f j) k z)) → (q : ℕ) → q < length (joined f n) → P (get_or (joined f n) q z)
+  pub in-joined : (P : A → Type 0) (z : A) (n : ℕ) → ((j : ℕ) → j < n → (k : ℕ) → k < length (f j) → P (get_or (f j) k z)) → (q : ℕ) →
+      q < length (joined f n) → P (get_or (joined f n) q z)
   unfolding joined
   in-joined P z zero h q l = absurd (omega arith)
   in-joined P z (suc n) h q l =
@@ -87,10 +89,17 @@ module _ {A : Type 0} (f : ℕ → List A) where
       (le-or-lt (length (joined f n)) q)
 
 -- as many items, whatever they are
-pub joined_alike : {A B : Type 0} (f : ℕ → List A) (g : ℕ → List B) (n : ℕ) → ((j : ℕ) → j < n → length (f j) ≡ length (g j)) → length (joined f n) ≡ length (joined g n)
+pub joined_alike : {A B : Type 0} (f : ℕ → List A) (g : ℕ → List B) (n : ℕ) → ((j : ℕ) → j < n → length (f j) ≡ length (g j)) → length (joined f n)
+    ≡ length (joined g n)
 unfolding joined
 joined_alike f g zero h = refl
-joined_alike f g (suc n) h = omega (arith, length-append (joined f n) (f n), length-append (joined g n) (g n), h n (omega arith), joined_alike f g n (λ j l. h j (omega arith)))
+joined_alike f g (suc n) h = omega (
+  arith,
+  length-append (joined f n) (f n),
+  length-append (joined g n) (g n),
+  h n (omega arith),
+  joined_alike f g n (λ j l. h j (omega arith)),
+)
 
 -- columns that rise and stay below the row count
 pub record Columns (nrows ncols : ℕ) (rows : ℕ → List ℕ) (vals : ℕ → List Float) : Type 0 where
@@ -110,7 +119,8 @@ module _ {nrows ncols : ℕ} {rows : ℕ → List ℕ} {vals : ℕ → List Floa
   column-is j h = rw (starts j (omega arith), starts (j + 1) (omega arith)) (joined-part rows j ncols h)
 
   last-start : get_or (table (ncols + 1) start) (length (table (ncols + 1) start) - 1) 0 ≡ length (joined rows ncols)
-  last-start = let e : length (table (ncols + 1) start) - 1 ≡ ncols = omega (arith, length-table (ncols + 1) start) in rw e (starts ncols (omega arith))
+  last-start = let e : length (table (ncols + 1) start) - 1 ≡ ncols = omega (arith, length-table (ncols + 1) start) in
+      rw e (starts ncols (omega arith))
 
   less : (k : ℕ) → k < length (table (ncols + 1) start) - 1 → k + 1 ≤ ncols
   less k h = omega (arith, length-table (ncols + 1) start)

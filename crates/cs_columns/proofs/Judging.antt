@@ -39,7 +39,11 @@ module _ (a b : Matrix) {r s t : ℕ} (e : r ≡ lowest (judged a)) (f : s ≡ l
 
 pub early_two : (a b : Matrix) (t : Bool) → Early (judged_two a b t)
 unfolding judged_two judged judged_pattern both
-early_two a b t = (omega arith, omega arith, (omega arith, omega arith, (omega arith, omega arith, (omega arith, omega arith, (omega arith, omega arith, omega arith)))))
+early_two a b t = (
+  omega arith,
+  omega arith,
+  (omega arith, omega arith, (omega arith, omega arith, (omega arith, omega arith, (omega arith, omega arith, omega arith)))),
+)
 
 -- two that pass are valid, and their dimensions agree
 pub record Passed (a b : Matrix) (differ : Bool) : Type 0 where

@@ -39,7 +39,8 @@ module _ {l : List ℕ} {k b : ℕ} (s : Half l k b) where
         record {
           up = s.up;
           inside = omega arith;
-          done = λ q g. ⊎_elim (λ (f : q ≡ k). rw (f, ← e) (omega arith)) (λ (f : q < k). omega (arith, s.done q f, s.left k (omega arith) h)) (eq-or-lt_of_le (omega arith));
+          done = λ q g. ⊎_elim (λ (f : q ≡ k). rw (f, ← e) (omega arith)) (λ (f : q < k). omega (arith, s.done q f, s.left k (omega arith) h))
+              (eq-or-lt_of_le (omega arith));
           left = λ q g m. omega (arith, rises-apart l s.up k q (omega arith) m);
         }
 
@@ -119,7 +120,8 @@ module _ {n : ℕ} {l m : List ℕ} {ka kb : ℕ} {found : List ℕ} (v : Mergin
       v.is
       ∙ sym
       (chosen-rest (either l m) v.bound n v.within
-      (λ r o q. either-none l m r (half_least v.first {r = n} (λ e. absurd (omega arith)) r o q) (half_least v.second {r = n} (λ e. absurd (omega arith)) r o q)))
+      (λ r o q. either-none l m r (half_least v.first {r = n} (λ e. absurd (omega arith)) r o q)
+      (half_least v.second {r = n} (λ e. absurd (omega arith)) r o q)))
 
   pub merging_count : length found ≤ n
   merging_count = rw v.is (omega (arith, chosen-within (either l m) v.bound, v.within))
@@ -139,14 +141,24 @@ module _ {n : ℕ} {l m : List ℕ} {ka kb : ℕ} {found : List ℕ} (v : Mergin
     s_most = rw es (at_most m kb n v.small v.m_below)
 
     -- one row more
-    module _ (x : ℕ) (low : v.bound ≤ x) (high : x < n) (f : ka < length l → x ≤ get_or l ka 0) (g : kb < length m → x ≤ get_or m kb 0) (t : either l m x ≡ true) where
+    module _ (x : ℕ) (low : v.bound ≤ x) (high : x < n) (f : ka < length l → x ≤ get_or l ka 0) (g : kb < length m → x ≤ get_or m kb 0)
+        (t : either l m x ≡ true) where
       more : found ++ (x ∷ []) ≡ chosen (x + 1) (either l m)
       more =
           ap (λ (u : List ℕ). u ++ (x ∷ [])) v.is
           ∙ sym (chosen-next (either l m) v.bound x low (λ q o h. either-none l m q (half_least v.first f q o h) (half_least v.second g q o h)) t)
 
       next : {ka' kb' : ℕ} → Half l ka' (x + 1) → Half m kb' (x + 1) → Merging n l m ka' kb' (found ++ (x ∷ []))
-      next a b = record { small = v.small; l_below = v.l_below; m_below = v.m_below; bound = x + 1; within = omega arith; first = a; second = b; is = more }
+      next a b = record {
+        small = v.small;
+        l_below = v.l_below;
+        m_below = v.m_below;
+        bound = x + 1;
+        within = omega arith;
+        first = a;
+        second = b;
+        is = more;
+      }
 
     module _ (h : r < s) where
       pub first-in : ka < length l
@@ -200,7 +212,8 @@ module _ {n : ℕ} {l m : List ℕ} {ka kb : ℕ} {found : List ℕ} (v : Mergin
 
     module _ (h : r ≡ s) (o : (ka < length l) ⊎ (kb < length m)) where
       not_end : r < end
-      not_end = ⊎_elim (λ (q : ka < length l). omega (arith, r_there q, v.l_below ka q, v.small)) (λ (q : kb < length m). omega (arith, s_there q, v.m_below kb q, v.small)) o
+      not_end = ⊎_elim (λ (q : ka < length l). omega (arith, r_there q, v.l_below ka q, v.small))
+          (λ (q : kb < length m). omega (arith, s_there q, v.m_below kb q, v.small)) o
 
       pub both_first : ka < length l
       both_first = lower_in l ka n v.small v.l_below (omega (arith, er, not_end))
@@ -222,12 +235,23 @@ module _ {n : ℕ} {l m : List ℕ} {ka kb : ℕ} {found : List ℕ} (v : Mergin
 
       pub merging_both : Merging n l m (ka + 1) (kb + 1) (found ++ (r ∷ []))
       merging_both =
-          next r (omega (arith, r_is, v.first.left ka (omega arith) both_first)) (omega (arith, r_is, v.l_below ka both_first)) (λ q. omega (arith, r_is)) (λ q. omega (arith, r_is_too)) (either_first l m r both_list)
+          next r (omega (arith, r_is, v.first.left ka (omega arith) both_first)) (omega (arith, r_is, v.l_below ka both_first))
+          (λ q. omega (arith, r_is)) (λ q. omega (arith, r_is_too)) (either_first l m r both_list)
           (half_take v.first both_first r_is)
           (half_take v.second both_second r_is_too)
 
-pub merging_start : (n : ℕ) (l m : List ℕ) → n ≤ 65535 → ((k : ℕ) → k < length l → get_or l k 0 < n) → ((k : ℕ) → k < length m → get_or m k 0 < n) → rises l ≡ true → rises m ≡ true → Merging n l m 0 0 []
-merging_start n l m h f g u w = record { small = h; l_below = f; m_below = g; bound = 0; within = omega arith; first = half_start l u; second = half_start m w; is = sym (chosen_none (either l m)) }
+pub merging_start : (n : ℕ) (l m : List ℕ) → n ≤ 65535 → ((k : ℕ) → k < length l → get_or l k 0 < n) → ((k : ℕ) → k < length m → get_or m k 0 < n) →
+    rises l ≡ true → rises m ≡ true → Merging n l m 0 0 []
+merging_start n l m h f g u w = record {
+  small = h;
+  l_below = f;
+  m_below = g;
+  bound = 0;
+  within = omega arith;
+  first = half_start l u;
+  second = half_start m w;
+  is = sym (chosen_none (either l m));
+}
 
 -- no more are found than there are in the end
 pub merging_room : {n : ℕ} {l m : List ℕ} {ka kb : ℕ} {found : List ℕ} → Merging n l m ka kb found → length found ≤ length (chosen n (either l m))

@@ -73,12 +73,20 @@ watching_done {rows = rows} {cols = cols} {bad = bad} v h e =
     let z = eqb-true bad 0 e in
     let s = v.ask in
     record {
-      columns = record { climbs = λ a b l m. omega (arith, v.up z a b l (omega (arith, s.alike)), s.rows_below a (omega (arith, s.alike)), s.rows_below b (omega (arith, s.alike))) };
+      columns = record {
+        climbs = λ a b l m. omega (
+          arith,
+          v.up z a b l (omega (arith, s.alike)),
+          s.rows_below a (omega (arith, s.alike)),
+          s.rows_below b (omega (arith, s.alike)),
+        );
+      };
       rise = λ a b l m n f. omega (arith, v.up z a b l (omega arith), f);
     }
 
 -- ---- no place is given twice
-not_listed : (r c : ℕ) (rs cs : List ℕ) → ((k : ℕ) → k < length rs → k < length cs → get_or rs k 0 ≡ r → get_or cs k 0 ≡ c → ⊥) → lists c (of_key r rs cs) ≡ false
+not_listed : (r c : ℕ) (rs cs : List ℕ) → ((k : ℕ) → k < length rs → k < length cs → get_or rs k 0 ≡ r → get_or cs k 0 ≡ c → ⊥) →
+    lists c (of_key r rs cs) ≡ false
 unfolding lists of_key
 not_listed r c [] cs h = refl
 not_listed r c (y ∷ rs) [] h = refl
@@ -121,12 +129,18 @@ module _ {t : Triplets} (s : Sound t) where
     pub as-given-is : as_given t ≡ assembled t
     unfolding as_given assembled
     as-given-is =
-        rw (stays t.i refl, stays t.v (sym s.v_long), table_same (t.ncols + 1) (λ c. length (by_key c t.j t.j)) (λ c. length (by_key c t.j t.v)) (λ c l. keys_alike c t.j t.j t.v (sym s.j_long ∙ s.v_long)))
+        rw (
+          stays t.i refl,
+          stays t.v (sym s.v_long),
+          table_same (t.ncols + 1) (λ c. length (by_key c t.j t.j)) (λ c. length (by_key c t.j t.v))
+              (λ c l. keys_alike c t.j t.j t.v (sym s.j_long ∙ s.v_long)),
+        )
 
     pub written-given : (old : Stored) {new : Stored} → new ≡ written (as_given t) old → new ≡ written (assembled t) old
     written-given old e = rw as-given-is at e
 
-pub given-written : (t : Triplets) (old : Stored) {p i : List ℕ} {v : List Float} → p ≡ onto old.p (table (t.ncols + 1) (λ c. length (by_key c t.j t.j))) → i ≡ onto old.i t.i → v ≡ onto old.v t.v
+pub given-written : (t : Triplets) (old : Stored) {p i : List ℕ} {v : List Float} →
+    p ≡ onto old.p (table (t.ncols + 1) (λ c. length (by_key c t.j t.j))) → i ≡ onto old.i t.i → v ≡ onto old.v t.v
     → stored p i v ≡ written (as_given t) old
 unfolding as_given written
 given-written t old a b c = λ k. stored (a k) (b k) (c k)

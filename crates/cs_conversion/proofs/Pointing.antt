@@ -181,7 +181,8 @@ module _ {m : ℕ} (d cols : List ℕ) {p : List ℕ} (z : p ≡ cleared 0 m d) 
   pub lent_placed : Placed m cols → Placed (length (take m p)) cols
   lent_placed a = let e : length (take m p) ≡ m = sym (cleared_long d z l) in rw e a
 
-  pub pointers_are : (ys : List ℕ) → length ys ≡ length (take m p) → ys ≡ table (length (take m p)) (λ c. length (by_key c cols cols)) → ys ++ drop m p ≡ onto d (table m (λ c. length (by_key c cols cols)))
+  pub pointers_are : (ys : List ℕ) → length ys ≡ length (take m p) → ys ≡ table (length (take m p)) (λ c. length (by_key c cols cols)) →
+      ys ++ drop m p ≡ onto d (table m (λ c. length (by_key c cols cols)))
   pointers_are ys e f =
       let t : length (take m p) ≡ m = sym (cleared_long d z l) in
       let k = kept-once d z l ys e in

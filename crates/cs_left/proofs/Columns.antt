@@ -28,7 +28,8 @@ module _ (k z : ℕ) (v : Float) (x : List Float) where
   unfolding put_at
   put-none h = rw (lt-leb k z h)
 
-module _ {k : ℕ} {rows : List ℕ} {vals x₀ x : List Float} {q : ℕ} (w : Passing (put_at k) rows vals x₀ x q) (h : q < length rows) {z : ℕ} (e : z ≡ get_or rows q 0) where
+module _ {k : ℕ} {rows : List ℕ} {vals x₀ x : List Float} {q : ℕ} (w : Passing (put_at k) rows vals x₀ x q) (h : q < length rows) {z : ℕ}
+    (e : z ≡ get_or rows q 0) where
   pub load_put : k ≤ z → Passing (put_at k) rows vals x₀ (set x z (get_or vals q nan)) (q + 1)
   load_put g = passing_turn w h e nan (length-set x z _) (put-set k z (get_or vals q nan) x g)
 
@@ -47,20 +48,29 @@ pub length-quotients : (d : Float) (rows : List ℕ) (x : List Float) → length
 unfolding quotients
 length-quotients d rows x = length-map rows _
 
-quotients-more : (d : Float) (rows : List ℕ) (x : List Float) (q : ℕ) → q < length rows → quotients d (take (q + 1) rows) x ≡ quotients d (take q rows) x ++ (div binary64 (get_or x (get_or rows q 0) nan) d ∷ [])
+quotients-more : (d : Float) (rows : List ℕ) (x : List Float) (q : ℕ) → q < length rows → quotients d (take (q + 1) rows) x
+    ≡ quotients d (take q rows) x ++ (div binary64 (get_or x (get_or rows q 0) nan) d ∷ [])
 unfolding quotients
-quotients-more d rows x q h = let t : take (q + 1) rows ≡ take q rows ++ (get_or rows q 0 ∷ []) = rw add-one (take-suc rows q 0 h) in ap (map (λ p. div binary64 (get_or x p nan) d)) t ∙ map_more (λ p. div binary64 (get_or x p nan) d) (take q rows) (get_or rows q 0)
+quotients-more d rows x q h = let t : take (q + 1) rows ≡ take q rows ++ (get_or rows q 0 ∷ []) = rw add-one (take-suc rows q 0 h) in
+    ap (map (λ p. div binary64 (get_or x p nan) d)) t ∙ map_more (λ p. div binary64 (get_or x p nan) d) (take q rows) (get_or rows q 0)
 
 pub dividing_start : (d : Float) {rows : List ℕ} {vals x : List Float} → Places (length x) rows (length vals) → Dividing d rows vals x vals x 0
 unfolding quotients
-dividing_start d {rows} {vals} {x} a = record { asks = a; long = refl; is = along-start zero_at rows x; unread = λ r h g. refl; vals_are = onto-none vals }
+dividing_start d {rows} {vals} {x} a = record {
+  asks = a;
+  long = refl;
+  is = along-start zero_at rows x;
+  unread = λ r h g. refl;
+  vals_are = onto-none vals;
+}
 
 module _ {d : Float} {rows : List ℕ} {vals₀ x₀ vals x : List Float} {q : ℕ} (w : Dividing d rows vals₀ x₀ vals x q) where
   front : q ≤ length rows → length (quotients d (take q rows) x₀) ≡ q
   front h = length-quotients d (take q rows) x₀ ∙ omega (arith, length-take q rows)
 
   pub dividing_long : length vals ≡ length vals₀
-  dividing_long = ap length w.vals_are ∙ length-onto vals₀ (quotients d (take q rows) x₀) (omega (arith, front w.is.within, w.is.within, w.asks.alike))
+  dividing_long = ap length w.vals_are ∙ length-onto vals₀ (quotients d (take q rows) x₀)
+      (omega (arith, front w.is.within, w.is.within, w.asks.alike))
 
   module _ (h : q < length rows) {z : ℕ} (e : z ≡ get_or rows q 0) where
     pub dividing_row : z < length x
@@ -76,7 +86,8 @@ module _ {d : Float} {rows : List ℕ} {vals₀ x₀ vals x : List Float} {q : �
           asks = w.asks;
           long = length-set x z none ∙ w.long;
           is = along-turn zero_at rows 0 w.is h (rw e);
-          unread = λ r a b. get_or-set_other x z (get_or rows r 0) none nan (λ y. w.asks.once q r (omega arith) b (sym e ∙ sym y)) ∙ w.unread r (omega arith) b;
+          unread = λ r a b. get_or-set_other x z (get_or rows r 0) none nan (λ y. w.asks.once q r (omega arith) b (sym e ∙ sym y)) ∙
+              w.unread r (omega arith) b;
           vals_are =
               let Q = quotients d (take q rows) x₀ in
               let n : q ≡ length Q = sym (front (omega arith)) in
@@ -89,6 +100,7 @@ module _ {d : Float} {rows : List ℕ} {vals₀ x₀ vals x : List Float} {q : �
 
   pub dividing_end : length rows ≤ q → (vals ≡ quotients d rows x₀) × (x ≡ along zero_at rows x₀)
   dividing_end h = (
-    w.vals_are ∙ ap (λ (l : List ℕ). onto vals₀ (quotients d l x₀)) (take_all q rows h) ∙ onto-whole vals₀ (quotients d rows x₀) (length-quotients d rows x₀ ∙ sym w.asks.alike),
+    w.vals_are ∙ ap (λ (l : List ℕ). onto vals₀ (quotients d l x₀)) (take_all q rows h) ∙
+        onto-whole vals₀ (quotients d rows x₀) (length-quotients d rows x₀ ∙ sym w.asks.alike),
     along-end zero_at rows w.is h,
   )

@@ -25,14 +25,19 @@ use Rattle.cs_left.specs.Steps.{add_held, advance, Crossing, Crossings}
 
 -- ---- a column that is cut at row k
 -- the rows before it are passed over
-over_cut : (k : ℕ) (f : Float) (m : ℕ) (rows : List ℕ) (vals : List Float) → length vals ≡ length rows → ((q : ℕ) → q < m → get_or rows q 0 < k) → ((q : ℕ) → m ≤ q → q < length rows → k ≤ get_or rows q 0)
+over_cut : (k : ℕ) (f : Float) (m : ℕ) (rows : List ℕ) (vals : List Float) → length vals ≡ length rows → ((q : ℕ) → q < m → get_or rows q 0 < k) →
+    ((q : ℕ) → m ≤ q → q < length rows → k ≤ get_or rows q 0)
     → (x : List Float) → over (add_at k f) rows vals x ≡ over (plus_at f) (drop m rows) (drop m vals) x
 unfolding over add_at plus_at
 over_cut k f zero [] vals l b h x = refl
 over_cut k f (suc m) [] vals l b h x = refl
 over_cut k f m (z ∷ rows) [] l b h x = absurd (omega arith)
-over_cut k f zero (z ∷ rows) (v ∷ vals) l b h x = rw (le-leb k z (h 0 (omega arith) (omega arith))) (over_cut k f zero rows vals (omega arith) (λ q g. absurd (omega arith)) (λ q g i. h (suc q) (omega arith) (omega arith)) _)
-over_cut k f (suc m) (z ∷ rows) (v ∷ vals) l b h x = rw (lt-leb k z (b 0 (omega arith))) (over_cut k f m rows vals (omega arith) (λ q g. b (suc q) (omega arith)) (λ q g i. h (suc q) (omega arith) (omega arith)) x)
+over_cut k f zero (z ∷ rows) (v ∷ vals) l b h x =
+    rw (le-leb k z (h 0 (omega arith) (omega arith))) (over_cut k f zero rows vals (omega arith) (λ q g. absurd (omega arith))
+    (λ q g i. h (suc q) (omega arith) (omega arith)) _)
+over_cut k f (suc m) (z ∷ rows) (v ∷ vals) l b h x =
+    rw (lt-leb k z (b 0 (omega arith))) (over_cut k f m rows vals (omega arith) (λ q g. b (suc q) (omega arith))
+    (λ q g i. h (suc q) (omega arith) (omega arith)) x)
 
 module _ {k : ℕ} {lp li : List ℕ} {lx : List Float} {next : List ℕ} {n j : ℕ} (w : Crossing k lp li lx next n j) where
   abbrev rows : List ℕ
@@ -112,19 +117,29 @@ module _ {k : ℕ} {lp li : List ℕ} {lx : List Float} {next : List ℕ} {n j :
 unfoldable pub add_step : ℕ → List ℕ → List ℕ → List Float → ℕ → List Float → List Float
 add_step k lp li lx j x = cond (ltb j k) (add_column k (column lp j li) (column lp j lx) x) x
 
-pub record Adding (k : ℕ) (us lp li : List ℕ) (lx : List Float) (next₀ : List ℕ) (x₀ : List Float) (next : List ℕ) (x : List Float) (q : ℕ) : Type 0 where
-  pub asks : Crossings k us lp li lx next₀ (length x₀)
-  pub x_long : length x ≡ length x₀
-  pub next_long : length next ≡ length next₀
-  pub x_is : Along (add_step k lp li lx) us x₀ x q
-  pub next_is : Along (advance k) us next₀ next q
-  pub ahead : (r : ℕ) → q ≤ r → r < length us → get_or next (get_or us r 0) 0 ≡ get_or next₀ (get_or us r 0) 0
+pub record Adding (k : ℕ) (us lp li : List ℕ) (lx : List Float) (next₀ : List ℕ) (x₀ : List Float) (next : List ℕ) (x : List Float) (q : ℕ) : Type 0
+  where
+    pub asks : Crossings k us lp li lx next₀ (length x₀)
+    pub x_long : length x ≡ length x₀
+    pub next_long : length next ≡ length next₀
+    pub x_is : Along (add_step k lp li lx) us x₀ x q
+    pub next_is : Along (advance k) us next₀ next q
+    pub ahead : (r : ℕ) → q ≤ r → r < length us → get_or next (get_or us r 0) 0 ≡ get_or next₀ (get_or us r 0) 0
 
-pub adding_start : {k : ℕ} {us lp li : List ℕ} {lx : List Float} {next : List ℕ} {x : List Float} → Crossings k us lp li lx next (length x) → Adding k us lp li lx next x next x 0
+pub adding_start : {k : ℕ} {us lp li : List ℕ} {lx : List Float} {next : List ℕ} {x : List Float} → Crossings k us lp li lx next (length x) →
+    Adding k us lp li lx next x next x 0
 adding_start {k} {us} {lp} {li} {lx} {next} {x} a =
-    record { asks = a; x_long = refl; next_long = refl; x_is = along-start (add_step k lp li lx) us x; next_is = along-start (advance k) us next; ahead = λ r h g. refl }
+    record {
+      asks = a;
+      x_long = refl;
+      next_long = refl;
+      x_is = along-start (add_step k lp li lx) us x;
+      next_is = along-start (advance k) us next;
+      ahead = λ r h g. refl;
+    }
 
-module _ {k : ℕ} {us lp li : List ℕ} {lx : List Float} {next₀ : List ℕ} {x₀ : List Float} {next : List ℕ} {x : List Float} {q : ℕ} (w : Adding k us lp li lx next₀ x₀ next x q) where
+module _ {k : ℕ} {us lp li : List ℕ} {lx : List Float} {next₀ : List ℕ} {x₀ : List Float} {next : List ℕ} {x : List Float} {q : ℕ}
+    (w : Adding k us lp li lx next₀ x₀ next x q) where
   module _ (h : q < length us) {j : ℕ} (e : j ≡ get_or us q 0) where
     module _ (g : j < k) where
       -- the crossing, as it stands here
@@ -145,7 +160,8 @@ module _ {k : ℕ} {us lp li : List ℕ} {lx : List Float} {next₀ : List ℕ} 
             below = rw w.x_long c.below;
           }
 
-      pub adding_turn : {s t : ℕ} {y : List Float} → s ≡ get_or next j 0 → t ≡ get_or lp (j + 1) 0 → length y ≡ length x → y ≡ over (plus_at (neg (get_or lx s nan))) (part s t li) (part s t lx) x
+      pub adding_turn : {s t : ℕ} {y : List Float} → s ≡ get_or next j 0 → t ≡ get_or lp (j + 1) 0 → length y ≡ length x →
+          y ≡ over (plus_at (neg (get_or lx s nan))) (part s t li) (part s t lx) x
           → Adding k us lp li lx next₀ x₀ (set next j (s + 1)) y (q + 1)
       unfolding advance add_step
       adding_turn {s} {t} a b l y =
@@ -155,7 +171,8 @@ module _ {k : ℕ} {us lp li : List ℕ} {lx : List Float} {next₀ : List ℕ} 
             next_long = length-set next j _ ∙ w.next_long;
             x_is = along-turn (add_step k lp li lx) us 0 w.x_is h (y ∙ crossing_adds adding_here a b x ∙ (rw (← e, lt-ltb j k g)));
             next_is = along-turn (advance k) us 0 w.next_is h (rw (← e, lt-ltb j k g, a));
-            ahead = λ r i m. get_or-set_other next j (get_or us r 0) (s + 1) 0 (λ z. w.asks.once q r (omega arith) m (sym e ∙ sym z)) ∙ w.ahead r (omega arith) m;
+            ahead = λ r i m. get_or-set_other next j (get_or us r 0) (s + 1) 0 (λ z. w.asks.once q r (omega arith) m (sym e ∙ sym z)) ∙
+                w.ahead r (omega arith) m;
           }
 
     pub adding_pass : k ≤ j → Adding k us lp li lx next₀ x₀ next x (q + 1)

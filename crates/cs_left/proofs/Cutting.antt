@@ -26,8 +26,14 @@ module _ {k : ℕ} {rows : List ℕ} {m : ℕ} (c : Cut k rows m) where
       go : Spot rows k → (m < length rows) × (get_or rows m 0 ≡ k)
       go a =
           ⊎_elim
-          (λ (z : m ≤ a.at). ⊎_elim (λ (y : a.at ≤ m). (let u : m ≡ a.at = omega arith in (omega (arith, a.inside), ap (λ (q : ℕ). get_or rows q 0) u ∙ a.is)))
-          (λ (y : m < a.at). absurd (omega (arith, rises-apart rows (rising_rises r) m a.at y a.inside, c.behind m (omega arith) (omega (arith, a.inside)), a.is))) (le-or-lt a.at m))
+          (λ (z : m ≤ a.at). ⊎_elim (λ (y : a.at ≤ m). (let u : m ≡ a.at = omega arith in
+          (omega (arith, a.inside), ap (λ (q : ℕ). get_or rows q 0) u ∙ a.is)))
+          (λ (y : m < a.at). absurd (omega (
+            arith,
+            rises-apart rows (rising_rises r) m a.at y a.inside,
+            c.behind m (omega arith) (omega (arith, a.inside)),
+            a.is,
+          ))) (le-or-lt a.at m))
           (λ (z : a.at < m). absurd (omega (arith, c.before a.at z, a.is))) (le-or-lt m a.at)
 
   pub cut_on : Rising 0 rows → Memᴰ k rows → Cut (k + 1) rows (m + 1)
@@ -35,7 +41,8 @@ module _ {k : ℕ} {rows : List ℕ} {m : ℕ} (c : Cut k rows m) where
       let h = cut_here r e in
       record {
         within = omega (arith, h.0);
-        before = λ q g. ⊎_elim (λ (z : m ≤ q). (let u : q ≡ m = omega arith in omega (arith, ap (λ (s : ℕ). get_or rows s 0) u, h.1))) (λ (z : q < m). omega (arith, c.before q z)) (le-or-lt m q);
+        before = λ q g. ⊎_elim (λ (z : m ≤ q). (let u : q ≡ m = omega arith in omega (arith, ap (λ (s : ℕ). get_or rows s 0) u, h.1)))
+            (λ (z : q < m). omega (arith, c.before q z)) (le-or-lt m q);
         behind = λ q g l. omega (arith, rises-apart rows (rising_rises r) m q (omega arith) l, h.1);
       }
 
@@ -44,7 +51,8 @@ module _ {k : ℕ} {rows : List ℕ} {m : ℕ} (c : Cut k rows m) where
       record {
         within = c.within;
         before = λ q g. omega (arith, c.before q g);
-        behind = λ q g l. ⊎_elim (λ (e : get_or rows q 0 ≡ k). absurd (n (rw (← e) (member_at rows q l)))) (λ (e : get_or rows q 0 ≡ k → ⊥). omega (arith, c.behind q g l, e)) (eq-or-ne (get_or rows q 0) k);
+        behind = λ q g l. ⊎_elim (λ (e : get_or rows q 0 ≡ k). absurd (n (rw (← e) (member_at rows q l))))
+            (λ (e : get_or rows q 0 ≡ k → ⊥). omega (arith, c.behind q g l, e)) (eq-or-ne (get_or rows q 0) k);
       }
 
 -- a column that starts with its diagonal
@@ -82,15 +90,19 @@ module _ (k : ℕ) where
   pub advance_missing : (us w : List ℕ) (j : ℕ) → (Memᴰ j us → ⊥) → get_or (along (advance k) us w) j 0 ≡ get_or w j 0
   advance_missing us w j n = along-keeps (λ (s : List ℕ). get_or s j 0) (advance k) us (λ i s m. advance_other i s j (λ e. n (rw e m))) w
 
-  pub advance_hit : {us : List ℕ} → Once us → (w : List ℕ) (j : ℕ) → Memᴰ j us → j < k → j < length w → get_or (along (advance k) us w) j 0 ≡ get_or w j 0 + 1
+  pub advance_hit : {us : List ℕ} → Once us → (w : List ℕ) (j : ℕ) → Memᴰ j us → j < k → j < length w → get_or (along (advance k) us w) j 0
+      ≡ get_or w j 0 + 1
   unfolding along
   advance_hit no_more w j m h l = absurd (Memᴰ.not-nil m)
-  advance_hit (one_more {x = x} {xs = xs} n o) w j m h l = ⊎_elim same (λ (t : Memᴰ j xs). later t (advance_hit o (advance k x w) j t h (rw (length-advance x w) l))) (Memᴰ.cases_cons m)
+  advance_hit (one_more {x = x} {xs = xs} n o) w j m h l =
+      ⊎_elim same (λ (t : Memᴰ j xs). later t (advance_hit o (advance k x w) j t h (rw (length-advance x w) l))) (Memᴰ.cases_cons m)
     where
       same : j ≡ x → get_or (along (advance k) xs (advance k x w)) j 0 ≡ get_or w j 0 + 1
-      same e = rw (← e) (advance_missing xs (advance k j w) j (λ t. n (rw (← e) t)) ∙ ap (λ (s : List ℕ). get_or s j 0) (advance-is j w h) ∙ get_or-set_same w j _ 0 l)
+      same e = rw (← e) (advance_missing xs (advance k j w) j (λ t. n (rw (← e) t)) ∙ ap (λ (s : List ℕ). get_or s j 0) (advance-is j w h) ∙
+          get_or-set_same w j _ 0 l)
 
-      later : Memᴰ j xs → get_or (along (advance k) xs (advance k x w)) j 0 ≡ get_or (advance k x w) j 0 + 1 → get_or (along (advance k) xs (advance k x w)) j 0 ≡ get_or w j 0 + 1
+      later : Memᴰ j xs → get_or (along (advance k) xs (advance k x w)) j 0 ≡ get_or (advance k x w) j 0 + 1 →
+          get_or (along (advance k) xs (advance k x w)) j 0 ≡ get_or w j 0 + 1
       later t e = e ∙ ap (λ (s : ℕ). s + 1) (advance_other x w j (λ y. n (rw (← y) t)))
 
 -- ---- `next`, of a column whose rows are these

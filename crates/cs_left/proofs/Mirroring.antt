@@ -31,9 +31,13 @@ module _ (c r : ℕ) (p i next : List ℕ) {s e : ℕ} (f : s ≡ get_or next r 
     meet_is n = rw (← f, ← g, ← d, lt-ltb s e h, eq-eqb z c n)
 
 -- what is met by row r of column c is met
-mirrors_met : {c r : ℕ} {p i : List ℕ} (next : List ℕ) → Memᴰ r (column p c i) → r < length next → Mirrors c p i next → Mirrors c p i (meet_at c p i r next)
+mirrors_met : {c r : ℕ} {p i : List ℕ} (next : List ℕ) → Memᴰ r (column p c i) → r < length next → Mirrors c p i next →
+    Mirrors c p i (meet_at c p i r next)
 unfolding meet_at
-mirrors_met {c} {r} {p} {i} next m l w = record { met = λ k y a b d. go (ltb (get_or next r 0) (get_or p (r + 1) 0)) (eqb (get_or i (get_or next r 0) 0) c) refl k y a b d }
+mirrors_met {c} {r} {p} {i} next m l w = record {
+  met = λ k y a b d. go (ltb (get_or next r 0) (get_or p (r + 1) 0))
+      (eqb (get_or i (get_or next r 0) 0) c) refl k y a b d;
+}
   where
     at_r : (k y : ℕ) → k ≡ r → get_or i (get_or next r 0) 0 ≡ c → k < c → get_or p k 0 ≤ y → y < get_or next r 0 + 1 → Met p i k (get_or i y 0)
     at_r k y e n f g h =
@@ -42,7 +46,8 @@ mirrors_met {c} {r} {p} {i} next m l w = record { met = λ k y a b d. go (ltb (g
         (λ (z : y < get_or next r 0). w.met k y f g (rw e z))
         (le-or-lt (get_or next r 0) y)
 
-    go : (a b : Bool) → eqb (get_or i (get_or next r 0) 0) c ≡ b → (k y : ℕ) → k < c → get_or p k 0 ≤ y → y < get_or (cond (a && b) (set next r (get_or next r 0 + 1)) next) k 0 → Met p i k (get_or i y 0)
+    go : (a b : Bool) → eqb (get_or i (get_or next r 0) 0) c ≡ b → (k y : ℕ) → k < c → get_or p k 0 ≤ y →
+        y < get_or (cond (a && b) (set next r (get_or next r 0 + 1)) next) k 0 → Met p i k (get_or i y 0)
     go true true e k y f g h =
         ⊎_elim
         (λ (d : k ≡ r). at_r k y d (eqb-true (get_or i (get_or next r 0) 0) c e) f g (rw (d, get_or-set_same next r (get_or next r 0 + 1) 0 l) at h))
@@ -53,7 +58,11 @@ mirrors_met {c} {r} {p} {i} next m l w = record { met = λ k y a b d. go (ltb (g
 
 -- column c walked
 pub walked_next : {c : ℕ} {p i next : List ℕ} {q : ℕ} → Walked c p i next q → c < length next → Mirrors (c + 1) p i (set next c q)
-walked_next {c} {p} {i} {next} {q} w l = record { met = λ r y a b d. ⊎_elim (λ (e : r ≡ c). same r y e b d) (λ (e : r ≡ c → ⊥). w.mirrors.met r y (omega arith) b (rw (get_or-set_other next c r q 0 e) at d)) (eq-or-ne r c) }
+walked_next {c} {p} {i} {next} {q} w l = record {
+  met =
+      λ r y a b d. ⊎_elim (λ (e : r ≡ c). same r y e b d)
+      (λ (e : r ≡ c → ⊥). w.mirrors.met r y (omega arith) b (rw (get_or-set_other next c r q 0 e) at d)) (eq-or-ne r c);
+}
   where
     same : (r y : ℕ) → r ≡ c → get_or p r 0 ≤ y → y < get_or (set next c q) r 0 → Met p i r (get_or i y 0)
     same r y e b d = inl (rw e (w.above y (rw e at b) (rw (e, get_or-set_same next c q 0 l) at d)))
@@ -69,7 +78,14 @@ pub record Walking (c : ℕ) (p i next₀ next : List ℕ) (q : ℕ) : Type 0 wh
 
 pub walking_start : {c : ℕ} {p i next : List ℕ} {q : ℕ} → Meets c p i next → q ≡ get_or p c 0 → Walking c p i next next q
 walking_start {c} a e =
-    record { asks = a; long = refl; mirrors = a.mirrors; low = omega arith; high = omega (arith, (a.rises.each c a.here).order); above = λ y h g. absurd (omega arith) }
+    record {
+      asks = a;
+      long = refl;
+      mirrors = a.mirrors;
+      low = omega arith;
+      high = omega (arith, (a.rises.each c a.here).order);
+      above = λ y h g. absurd (omega arith);
+    }
 
 module _ {c : ℕ} {p i next₀ next : List ℕ} {q : ℕ} (w : Walking c p i next₀ next q) where
   pub walking_done : Walked c p i next q
@@ -87,7 +103,8 @@ module _ {c : ℕ} {p i next₀ next : List ℕ} {q : ℕ} (w : Walking c p i ne
       stored =
           let d : q - get_or p c 0 < get_or p (c + 1) 0 - get_or p c 0 = omega (arith, w.low) in
           let u : get_or p c 0 + (q - get_or p c 0) ≡ q = omega (arith, w.low) in
-          let v : get_or (column p c i) (q - get_or p c 0) 0 ≡ r = get_or-column p c i (q - get_or p c 0) 0 d ∙ ap (λ (y : ℕ). get_or i y 0) u ∙ sym e in
+          let v : get_or (column p c i) (q - get_or p c 0) 0 ≡ r = get_or-column p c i (q - get_or p c 0) 0 d ∙ ap (λ (y : ℕ). get_or i y 0) u ∙
+          sym e in
           rw v at (member_at (column p c i) (q - get_or p c 0) (omega (arith, length-column p c i (w.asks.rises.each c w.asks.here).inside)))
 
       pub walking_turn : {next1 : List ℕ} → length next1 ≡ length next → next1 ≡ meet_at c p i r next → Walking c p i next₀ next1 (q + 1)
@@ -118,8 +135,15 @@ module _ {n : ℕ} {p i next₀ next : List ℕ} {c : ℕ} (w : Crossed n p i ne
   crossed_place : c < n → (next1 : List ℕ) → length next1 ≡ length next → c < length next1
   crossed_place h next1 l = omega (arith, w.long, w.room)
 
-  pub crossed_turn : c < n → {next1 : List ℕ} {q : ℕ} → length next1 ≡ length next → Walked c p i next1 q → Crossed n p i next₀ (set next1 c q) (c + 1)
-  crossed_turn h {next1} {q} l g = record { rises = w.rises; room = w.room; long = length-set next1 c q ∙ l ∙ w.long; within = omega arith; mirrors = walked_next g (crossed_place h next1 l) }
+  pub crossed_turn : c < n → {next1 : List ℕ} {q : ℕ} → length next1 ≡ length next → Walked c p i next1 q →
+      Crossed n p i next₀ (set next1 c q) (c + 1)
+  crossed_turn h {next1} {q} l g = record {
+    rises = w.rises;
+    room = w.room;
+    long = length-set next1 c q ∙ l ∙ w.long;
+    within = omega arith;
+    mirrors = walked_next g (crossed_place h next1 l);
+  }
 
   pub crossed_end : n ≤ c → Mirrors n p i next
   crossed_end h = let e : c ≡ n = omega (arith, w.within) in rw e at w.mirrors

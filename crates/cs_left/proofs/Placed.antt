@@ -39,7 +39,8 @@ none_of (y ∷ l) e m = true≢false e
 
 -- ---- a place that no row of a column is
 module _ (k z : ℕ) where
-  put_off : (rows : List ℕ) (vals : List Float) → ((r : ℕ) → Memᴰ r rows → k ≤ r → z ≡ r → ⊥) → (x : List Float) → get_or (over (put_at k) rows vals x) z nan ≡ get_or x z nan
+  put_off : (rows : List ℕ) (vals : List Float) → ((r : ℕ) → Memᴰ r rows → k ≤ r → z ≡ r → ⊥) → (x : List Float) →
+      get_or (over (put_at k) rows vals x) z nan ≡ get_or x z nan
   unfolding put_at
   put_off rows vals h x = over-keeps (λ (s : List Float). get_or s z nan) (put_at k) rows vals (λ r v s m. go (leb k r) r refl v s m) x
     where
@@ -47,21 +48,27 @@ module _ (k z : ℕ) where
       go true r e v s m = get_or-set_other s r z v nan (h r m (leb-true k r e))
       go false r e v s m = refl
 
-  add_off : (f : Float) (rows : List ℕ) (vals : List Float) → ((r : ℕ) → Memᴰ r rows → k ≤ r → z ≡ r → ⊥) → (x : List Float) → get_or (over (add_at k f) rows vals x) z nan ≡ get_or x z nan
+  add_off : (f : Float) (rows : List ℕ) (vals : List Float) → ((r : ℕ) → Memᴰ r rows → k ≤ r → z ≡ r → ⊥) → (x : List Float) →
+      get_or (over (add_at k f) rows vals x) z nan ≡ get_or x z nan
   unfolding add_at
   add_off f rows vals h x = over-keeps (λ (s : List Float). get_or s z nan) (add_at k f) rows vals (λ r v s m. go (leb k r) r refl v s m) x
     where
-      go : (b : Bool) (r : ℕ) → leb k r ≡ b → (v : Float) (s : List Float) → Memᴰ r rows → get_or (cond b (set s r (add binary64 (get_or s r nan) (mul binary64 v f))) s) z nan ≡ get_or s z nan
+      go : (b : Bool) (r : ℕ) → leb k r ≡ b → (v : Float) (s : List Float) → Memᴰ r rows →
+          get_or (cond b (set s r (add binary64 (get_or s r nan) (mul binary64 v f))) s) z nan ≡ get_or s z nan
       go true r e v s m = get_or-set_other s r z _ nan (h r m (leb-true k r e))
       go false r e v s m = refl
 
-  adds_off : (ls : List (List ℕ)) (done : List (List Float)) (us : List ℕ) → ((j r : ℕ) → Memᴰ j us → j < k → Memᴰ r (get_or ls j []) → k ≤ r → z ≡ r → ⊥) → (x : List Float)
+  adds_off : (ls : List (List ℕ)) (done : List (List Float)) (us : List ℕ) → ((j r : ℕ) → Memᴰ j us → j < k → Memᴰ r (get_or ls j []) → k ≤ r →
+      z ≡ r → ⊥) → (x : List Float)
       → get_or (add_columns k ls done us x) z nan ≡ get_or x z nan
   unfolding add_columns add_column
-  adds_off ls done us h x = along-keeps (λ (s : List Float). get_or s z nan) (λ j x. cond (ltb j k) (add_column k (get_or ls j []) (get_or done j []) x) x) us (λ j s m. go (ltb j k) j refl s m) x
+  adds_off ls done us h x = along-keeps (λ (s : List Float). get_or s z nan)
+      (λ j x. cond (ltb j k) (add_column k (get_or ls j []) (get_or done j []) x) x) us (λ j s m. go (ltb j k) j refl s m) x
     where
-      go : (b : Bool) (j : ℕ) → ltb j k ≡ b → (s : List Float) → Memᴰ j us → get_or (cond b (add_column k (get_or ls j []) (get_or done j []) s) s) z nan ≡ get_or s z nan
-      go true j e s m = add_off (neg (value_at k (get_or ls j []) (get_or done j []))) (get_or ls j []) (get_or done j []) (λ r t g. h j r m (ltb-true j k e) t g) s
+      go : (b : Bool) (j : ℕ) → ltb j k ≡ b → (s : List Float) → Memᴰ j us → get_or (cond b (add_column k (get_or ls j []) (get_or done j []) s) s)
+          z nan ≡ get_or s z nan
+      go true j e s m = add_off (neg (value_at k (get_or ls j []) (get_or done j []))) (get_or ls j []) (get_or done j [])
+          (λ r t g. h j r m (ltb-true j k e) t g) s
       go false j e s m = refl
 
 module _ {n : ℕ} {p i : List ℕ} {v : List Float} {up ui lp li : List ℕ} {room : ℕ} (S : Served n p i v up ui lp li room) where
@@ -106,17 +113,22 @@ module _ {n : ℕ} {p i : List ℕ} {v : List Float} {up ui lp li : List ℕ} {r
     stored-in {r} m g =
         ⊎_elim
         (λ (z : r ≤ k). (let e : r ≡ k = omega arith in rw e ((S.promised.across k k).1 (S.promised.closed.stores k k (omega arith) (rw e at m)))))
-        (λ (z : k < r). ⊎_elim (λ y. y.1) (λ y. absurd (not-both _ (some_of_member (λ i. ltb k i && not (lists i (get_or ls k []))) (get_or C k []) m (rw (lt-ltb k r z, y.0) refl)) none_here)) (listed-or-not r (get_or ls k []))) (le-or-lt r k)
+        (λ (z : k < r). ⊎_elim (λ y. y.1) (λ y. absurd
+        (not-both _ (some_of_member (λ i. ltb k i && not (lists i (get_or ls k []))) (get_or C k []) m (rw (lt-ltb k r z, y.0) refl))
+        none_here)) (listed-or-not r (get_or ls k []))) (le-or-lt r k)
 
     module _ (done : List (List Float)) {z : ℕ} (o : In ls z k → ⊥) where
       -- x stays zero where L's column k has no row
       pub x_off : z < n → get_or (left_x (matrix n n p i v) us ls k done) z nan ≡ none
       unfolding left_x
       x_off b =
-          adds_off k z ls done (get_or us k []) (λ j r m g t l e. o (rw e (cross-in g m t l))) (over (put_at k) (column p k i) (column p k v) (replicate n none))
+          adds_off k z ls done (get_or us k []) (λ j r m g t l e. o (rw e (cross-in g m t l)))
+          (over (put_at k) (column p k i) (column p k v) (replicate n none))
           ∙ put_off k z (column p k i) (column p k v) (λ r m l e. o (rw e (stored-in (rw (column-at (pattern n n p i) k h) m) l))) (replicate n none)
           ∙ get_or-replicate n z none nan b
 
     -- a pivot above zero has its row in L's column k
-    pub diagonal-in : (done : List (List Float)) {pivot : Float} → pivot ≡ get_or (left_x (matrix n n p i v) us ls k done) k nan → lt none pivot ≡ true → In ls k k
-    diagonal-in done {pivot} e t = ⊎_elim (λ y. y.1) (λ y. absurd (not-both (lt none pivot) t (ap (lt none) (e ∙ x_off done y.1 h) ∙ none_above))) (listed-or-not k (get_or ls k []))
+    pub diagonal-in : (done : List (List Float)) {pivot : Float} → pivot ≡ get_or (left_x (matrix n n p i v) us ls k done) k nan → lt none pivot
+        ≡ true → In ls k k
+    diagonal-in done {pivot} e t = ⊎_elim (λ y. y.1) (λ y. absurd (not-both (lt none pivot) t (ap (lt none) (e ∙ x_off done y.1 h) ∙ none_above)))
+        (listed-or-not k (get_or ls k []))

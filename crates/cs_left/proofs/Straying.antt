@@ -32,7 +32,14 @@ pub record Straying (k : ℕ) (rows held : List ℕ) (q at : ℕ) : Type 0 where
   pub passed : (h r : ℕ) → h < at → q ≤ r → r < length rows → get_or held h 0 < get_or rows r 0
 
 pub straying_start : (k : ℕ) {rows held : List ℕ} → (rises rows ≡ true) × (rises held ≡ true) → Straying k rows held 0 0
-straying_start k a = record { rows_rise = a.0; held_rise = a.1; in_rows = omega arith; in_held = omega arith; rest = refl; passed = λ h r g. absurd (omega arith) }
+straying_start k a = record {
+  rows_rise = a.0;
+  held_rise = a.1;
+  in_rows = omega arith;
+  in_held = omega arith;
+  rest = refl;
+  passed = λ h r g. absurd (omega arith);
+}
 
 module _ {k : ℕ} {rows held : List ℕ} {q at : ℕ} (w : Straying k rows held q at) where
   module _ (h : q < length rows) {row : ℕ} (e : row ≡ get_or rows q 0) where
@@ -53,7 +60,8 @@ module _ {k : ℕ} {rows held : List ℕ} {q at : ℕ} (w : Straying k rows held
         }
 
     later : (r : ℕ) → q ≤ r → r < length rows → row ≤ get_or rows r 0
-    later r i m = ⊎_elim (λ (z : r ≤ q). (let y : r ≡ q = omega arith in rw (y, e) (omega arith))) (λ (z : q < r). omega (arith, rises-apart rows w.rows_rise q r z m)) (le-or-lt r q)
+    later r i m = ⊎_elim (λ (z : r ≤ q). (let y : r ≡ q = omega arith in rw (y, e) (omega arith)))
+        (λ (z : q < r). omega (arith, rises-apart rows w.rows_rise q r z m)) (le-or-lt r q)
 
     -- nothing held is the row
     absent : (at < length held → row < get_or held at 0) → lists row held ≡ false
@@ -62,7 +70,8 @@ module _ {k : ℕ} {rows held : List ℕ} {q at : ℕ} (w : Straying k rows held
         no : Spot held row → ⊥
         no a =
             ⊎_elim
-            (λ (z : at ≤ a.at). ⊎_elim (λ (y : a.at ≤ at). (let u : a.at ≡ at = omega arith in omega (arith, f (omega (arith, a.inside)), a.is, ap (λ (m : ℕ). get_or held m 0) u)))
+            (λ (z : at ≤ a.at). ⊎_elim (λ (y : a.at ≤ at). (let u : a.at ≡ at = omega arith in
+            omega (arith, f (omega (arith, a.inside)), a.is, ap (λ (m : ℕ). get_or held m 0) u)))
             (λ (y : at < a.at). omega (arith, f (omega (arith, a.inside)), a.is, rises-apart held w.held_rise at a.at y a.inside)) (le-or-lt a.at at))
             (λ (z : a.at < at). omega (arith, w.passed a.at q z (omega arith) h, a.is)) (le-or-lt at a.at)
 
@@ -84,7 +93,9 @@ module _ {k : ℕ} {rows held : List ℕ} {q at : ℕ} (w : Straying k rows held
           in_rows = omega arith;
           in_held = omega arith;
           rest = here ∙ (rw (listed, and-false (ltb k row)) refl);
-          passed = λ b r i j m. ⊎_elim (λ (z : at ≤ b). (let y : b ≡ at = omega arith in omega (arith, ap (λ (u : ℕ). get_or held u 0) y, rises-apart rows w.rows_rise q r (omega arith) m))) (λ (z : b < at). w.passed b r z (omega arith) m) (le-or-lt at b);
+          passed = λ b r i j m. ⊎_elim (λ (z : at ≤ b). (let y : b ≡ at = omega arith in
+              omega (arith, ap (λ (u : ℕ). get_or held u 0) y, rises-apart rows w.rows_rise q r (omega arith) m)))
+              (λ (z : b < at). w.passed b r z (omega arith) m) (le-or-lt at b);
         }
           where
             listed : lists row held ≡ true
@@ -98,7 +109,8 @@ module _ {k : ℕ} {rows held : List ℕ} {q at : ℕ} (w : Straying k rows held
               in_rows = w.in_rows;
               in_held = omega arith;
               rest = w.rest;
-              passed = λ b r i j m. ⊎_elim (λ (z : at ≤ b). (let y : b ≡ at = omega arith in omega (arith, ap (λ (u : ℕ). get_or held u 0) y, later r j m))) (λ (z : b < at). w.passed b r z j m) (le-or-lt at b);
+              passed = λ b r i j m. ⊎_elim (λ (z : at ≤ b). (let y : b ≡ at = omega arith in
+                  omega (arith, ap (λ (u : ℕ). get_or held u 0) y, later r j m))) (λ (z : b < at). w.passed b r z j m) (le-or-lt at b);
             }
 
   pub straying_end : length rows ≤ q → false ≡ stray_in k held rows
@@ -109,7 +121,8 @@ module _ {k : ℕ} {rows held : List ℕ} {q at : ℕ} (w : Straying k rows held
 abbrev pub stray_at : List ℕ → List ℕ → List ℕ → List ℕ → ℕ → Bool
 stray_at p i lp li k = stray_in k (column lp k li) (column p k i)
 
-module _ {n k a e s f : ℕ} {p i lp li : List ℕ} (v : Rises n p i × Rises n lp li) (h : k < n) (x : a ≡ get_or p k 0) (y : e ≡ get_or p (k + 1) 0) (z : s ≡ get_or lp k 0) (t : f ≡ get_or lp (k + 1) 0) where
+module _ {n k a e s f : ℕ} {p i lp li : List ℕ} (v : Rises n p i × Rises n lp li) (h : k < n) (x : a ≡ get_or p k 0) (y : e ≡ get_or p (k + 1) 0)
+    (z : s ≡ get_or lp k 0) (t : f ≡ get_or lp (k + 1) 0) where
   rows_are : part a e i ≡ column p k i
   rows_are = within-part (v.0.each k h) x y i
 
@@ -123,7 +136,8 @@ module _ {n k a e s f : ℕ} {p i lp li : List ℕ} (v : Rises n p i × Rises n 
   stray_here g = sym (g ∙ ap (λ (l : List ℕ). stray_in k l (part a e i)) held_are ∙ ap (stray_in k (column lp k li)) rows_are)
 
 -- ---- `stray_at`: no row is a stray that is at or above the diagonal or has a place in L
-none_stray : (k : ℕ) (held rows : List ℕ) → ((q : ℕ) → q < length rows → (get_or rows q 0 ≤ k) ⊎ Memᴰ (get_or rows q 0) held) → false ≡ stray_in k held rows
+none_stray : (k : ℕ) (held rows : List ℕ) → ((q : ℕ) → q < length rows → (get_or rows q 0 ≤ k) ⊎ Memᴰ (get_or rows q 0) held) →
+    false ≡ stray_in k held rows
 unfolding stray_in some_of
 none_stray k held [] h = refl
 none_stray k held (z ∷ rows) h =
@@ -153,7 +167,8 @@ module _ {k : ℕ} {p i lp li next : List ℕ} (w : Seeks k p i lp li next) wher
           rw d
           (⊎_elim
           (λ (a : get_or i y 0 ≤ k). inl a)
-          (λ (a : Memᴰ k (column p (get_or i y 0) i)). ⊎_elim (λ (b : get_or i y 0 ≤ k). inl b) (λ (b : k < get_or i y 0). inr (w.sought.mirrored k (get_or i y 0) z b a)) (le-or-lt (get_or i y 0) k))
+          (λ (a : Memᴰ k (column p (get_or i y 0) i)). ⊎_elim (λ (b : get_or i y 0 ≤ k). inl b)
+          (λ (b : k < get_or i y 0). inr (w.sought.mirrored k (get_or i y 0) z b a)) (le-or-lt (get_or i y 0) k))
           (w.mirrors.met k y w.here (omega arith) (omega arith)))
 
 -- ---- `some_stray`

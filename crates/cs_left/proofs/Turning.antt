@@ -51,10 +51,12 @@ zero_off rows x z n = along-keeps (λ (s : List Float). get_or s z nan) zero_at 
 zero_on : (rows : List ℕ) (x : List Float) (z : ℕ) → z < length x → Memᴰ z rows → get_or (along zero_at rows x) z nan ≡ none
 unfolding along zero_at
 zero_on [] x z h m = absurd (Memᴰ.not-nil m)
-zero_on (r ∷ rows) x z h m = ⊎_elim (λ y. zero_on rows (set x r none) z (rw (length-set x r none) h) y.1) (λ y. last y (Memᴰ.cases_cons m)) (listed-or-not z rows)
+zero_on (r ∷ rows) x z h m = ⊎_elim (λ y. zero_on rows (set x r none) z (rw (length-set x r none) h) y.1) (λ y. last y (Memᴰ.cases_cons m))
+    (listed-or-not z rows)
   where
     last : (lists z rows ≡ false) × ¬ Memᴰ z rows → (z ≡ r) ⊎ Memᴰ z rows → get_or (along zero_at rows (set x r none)) z nan ≡ none
-    last y t = ⊎_elim (λ (e : z ≡ r). zero_off rows (set x r none) z y.1 ∙ ap (λ (q : ℕ). get_or (set x q none) z nan) (sym e) ∙ get_or-set_same x z none nan h) (λ (u : Memᴰ z rows). absurd (y.1 u)) t
+    last y t = ⊎_elim (λ (e : z ≡ r). zero_off rows (set x r none) z y.1 ∙ ap (λ (q : ℕ). get_or (set x q none) z nan) (sym e) ∙
+        get_or-set_same x z none nan h) (λ (u : Memᴰ z rows). absurd (y.1 u)) t
 
 length-zeros : (rows : List ℕ) (x : List Float) → length (along zero_at rows x) ≡ length x
 unfolding zero_at
@@ -93,13 +95,25 @@ module _ {n : ℕ} {p i : List ℕ} {v : List Float} {up ui lp li : List ℕ} {r
     l_end = omega (arith, laid_end S.l_laid l_in refl refl, S.promised.counts)
 
     pub p_within : Within k p i
-    p_within = let w = S.valid.pattern in record { pointer = omega (arith, w.p_long); order = w.ptrs.climbs k (omega (arith, w.p_long)); inside = at_most w.ptrs (k + 1) (omega (arith, w.p_long)) }
+    p_within = let w = S.valid.pattern in record {
+      pointer = omega (arith, w.p_long);
+      order = w.ptrs.climbs k (omega (arith, w.p_long));
+      inside = at_most w.ptrs (k + 1) (omega (arith, w.p_long));
+    }
 
     pub u_within : Within k up ui
-    u_within = record { pointer = omega (arith, S.u_laid.pointed.long, S.u_long); order = laid_order S.u_laid u_in refl refl; inside = laid_inside S.u_laid u_in refl refl }
+    u_within = record {
+      pointer = omega (arith, S.u_laid.pointed.long, S.u_long);
+      order = laid_order S.u_laid u_in refl refl;
+      inside = laid_inside S.u_laid u_in refl refl;
+    }
 
     pub l_within : Within k lp li
-    l_within = record { pointer = omega (arith, S.l_laid.pointed.long, S.l_long); order = laid_order S.l_laid l_in refl refl; inside = laid_inside S.l_laid l_in refl refl }
+    l_within = record {
+      pointer = omega (arith, S.l_laid.pointed.long, S.l_long);
+      order = laid_order S.l_laid l_in refl refl;
+      inside = laid_inside S.l_laid l_in refl refl;
+    }
 
     pub l_row : (q : ℕ) → q < length (get_or ls k []) → (k ≤ get_or (get_or ls k []) q 0) × (get_or (get_or ls k []) q 0 < n)
     l_row q g = in-lower S (member_at (get_or ls k []) q g)
@@ -110,7 +124,8 @@ module _ {n : ℕ} {p i : List ℕ} {v : List Float} {up ui lp li : List ℕ} {r
         let a = length-column p k i p_within.inside in
         record {
           alike = length-column p k v (omega (arith, p_within.inside, S.valid.v_long)) ∙ sym a;
-          below = λ q g. (let d : q < get_or p (k + 1) 0 - get_or p k 0 = omega (arith, a) in rw (get_or-column p k i q 0 d) (w.below (get_or p k 0 + q) (omega (arith, p_within.inside))));
+          below = λ q g. (let d : q < get_or p (k + 1) 0 - get_or p k 0 = omega (arith, a) in
+              rw (get_or-column p k i q 0 d) (w.below (get_or p k 0 + q) (omega (arith, p_within.inside))));
         }
 
   pub l_last : get_or lp n 0 ≡ entries us
@@ -129,7 +144,8 @@ pub record State (n : ℕ) (p i : List ℕ) (v : List Float) (lp : List ℕ) (lx
   pub next_at : (j : ℕ) → j < k → Next k (get_or (lower (columns (pattern n n p i))) j []) (get_or lp j 0) (get_or next j 0)
   pub zeros : x ≡ replicate n none
 
-pub state_start : {n : ℕ} {p i : List ℕ} {v : List Float} {up ui lp li : List ℕ} {room : ℕ} {next : List ℕ} (lx : List Float) {x : List Float} → Asked n p i v up ui lp li room next x → State n p i v lp lx next lx x 0
+pub state_start : {n : ℕ} {p i : List ℕ} {v : List Float} {up ui lp li : List ℕ} {room : ℕ} {next : List ℕ} (lx : List Float) {x : List Float} →
+    Asked n p i v up ui lp li room next x → State n p i v lp lx next lx x 0
 unfolding flatten entries
 state_start {n} {p} {i} {v} {lp = lp} lx a =
     record {
@@ -146,7 +162,8 @@ state_start {n} {p} {i} {v} {lp = lp} lx a =
     }
 
 -- ---- one column
-module _ {n : ℕ} {p i : List ℕ} {v : List Float} {up ui lp li : List ℕ} {room : ℕ} (S : Served n p i v up ui lp li room) (Q : strays (matrix n n p i v) ≡ false)
+module _ {n : ℕ} {p i : List ℕ} {v : List Float} {up ui lp li : List ℕ} {room : ℕ} (S : Served n p i v up ui lp li room)
+    (Q : strays (matrix n n p i v) ≡ false)
     {lx₀ : List Float} (R : room ≡ length lx₀) {next : List ℕ} {lx x : List Float} {k : ℕ} (w : State n p i v lp lx₀ next lx x k) where
   abbrev D : List (List ℕ)
   D = columns (pattern n n p i)
@@ -171,7 +188,8 @@ module _ {n : ℕ} {p i : List ℕ} {v : List Float} {up ui lp li : List ℕ} {r
   unfolding column
   held-column {j} h =
       ap (part (get_or lp j 0) (get_or lp (j + 1) 0)) lx_is
-      ∙ part-flat w.done (drop (length (flatten w.done)) lx) j (get_or lp j 0) (get_or lp (j + 1) 0) (omega (arith, w.count)) (w.starts j (omega arith)) (w.starts (j + 1) (omega arith))
+      ∙ part-flat w.done (drop (length (flatten w.done)) lx) j (get_or lp j 0) (get_or lp (j + 1) 0) (omega (arith, w.count))
+      (w.starts j (omega arith)) (w.starts (j + 1) (omega arith))
 
   -- at the end of all columns
   pub state_end : n ≤ k → {r : Factored} → r ≡ factored 0 0 none → Ended (entries U) (left (matrix n n p i v)) r lx₀ lx
@@ -207,7 +225,8 @@ module _ {n : ℕ} {p i : List ℕ} {v : List Float} {up ui lp li : List ℕ} {r
           below = λ q f o.
               let y : q - get_or lp j 0 < get_or lp (j + 1) 0 - get_or lp j 0 = omega arith in
               let u : q ≡ get_or lp j 0 + (q - get_or lp j 0) = omega arith in
-              let r : get_or li q 0 ≡ get_or (get_or L j []) (q - get_or lp j 0) 0 = ap (λ (s : ℕ). get_or li s 0) u ∙ sym (get_or-column lp j li (q - get_or lp j 0) 0 y) ∙ ap (λ (l : List ℕ). get_or l (q - get_or lp j 0) 0) (l_column S b) in
+              let r : get_or li q 0 ≡ get_or (get_or L j []) (q - get_or lp j 0) 0 = ap (λ (s : ℕ). get_or li s 0) u ∙
+              sym (get_or-column lp j li (q - get_or lp j 0) 0 y) ∙ ap (λ (l : List ℕ). get_or l (q - get_or lp j 0) 0) (l_column S b) in
               omega (arith, r, x_long, (l_row S b (q - get_or lp j 0) (omega (arith, l_size S b))).1);
         }
 
@@ -229,7 +248,8 @@ module _ {n : ℕ} {p i : List ℕ} {v : List Float} {up ui lp li : List ℕ} {r
 
     -- once x has gathered all
     module _ {pivot : Float} {y : List Float} {next1 : List ℕ} (l : length y ≡ length x)
-        (g : (pivot ≡ get_or y k nan) × (y ≡ add_held k lp li lx (column up k ui) (over (put_at k) (column p k i) (column p k v) x)) × (next1 ≡ along (advance k) (column up k ui) next)) where
+        (g : (pivot ≡ get_or y k nan) × (y ≡ add_held k lp li lx (column up k ui) (over (put_at k) (column p k i) (column p k v) x)) ×
+        (next1 ≡ along (advance k) (column up k ui) next)) where
       x_is : y ≡ left_x (matrix n n p i v) U L k w.done
       unfolding left_x add_held add_columns
       x_is =
@@ -237,10 +257,15 @@ module _ {n : ℕ} {p i : List ℕ} {v : List Float} {up ui lp li : List ℕ} {r
           g.1
           ∙ ap (λ (u : List ℕ). add_held k lp li lx u (X x)) (u_column S h)
           ∙ ap (λ (s : List Float). add_held k lp li lx (get_or U k []) (X s)) w.zeros
-          ∙ along-same (λ j x. cond (ltb j k) (add_column k (column lp j li) (column lp j lx) x) x) (λ j x. cond (ltb j k) (add_column k (get_or L j []) (get_or w.done j []) x) x) (get_or U k []) (λ j s m. go (ltb j k) j refl s) (X (replicate n none))
+          ∙ along-same (λ j x. cond (ltb j k) (add_column k (column lp j li) (column lp j lx) x) x)
+          (λ j x. cond (ltb j k) (add_column k (get_or L j []) (get_or w.done j []) x) x) (get_or U k []) (λ j s m. go (ltb j k) j refl s)
+          (X (replicate n none))
         where
-          go : (b : Bool) (j : ℕ) → ltb j k ≡ b → (s : List Float) → cond b (add_column k (column lp j li) (column lp j lx) s) s ≡ cond b (add_column k (get_or L j []) (get_or w.done j []) s) s
-          go true j e s = (let f : j < k = ltb-true j k e in let b : j < n = omega arith in ap (λ (t : List ℕ). add_column k t (column lp j lx) s) (l_column S b) ∙ ap (λ (t : List Float). add_column k (get_or L j []) t s) (held-column f))
+          go : (b : Bool) (j : ℕ) → ltb j k ≡ b → (s : List Float) → cond b (add_column k (column lp j li) (column lp j lx) s) s
+              ≡ cond b (add_column k (get_or L j []) (get_or w.done j []) s) s
+          go true j e s = (let f : j < k = ltb-true j k e in let b : j < n = omega arith in
+              ap (λ (t : List ℕ). add_column k t (column lp j lx) s) (l_column S b) ∙ ap (λ (t : List Float). add_column k (get_or L j []) t s)
+              (held-column f))
           go false j e s = refl
 
       next1_long : length next1 ≡ n
@@ -250,8 +275,10 @@ module _ {n : ℕ} {p i : List ℕ} {v : List Float} {up ui lp li : List ℕ} {r
       next1_at j f =
           let e : next1 ≡ along (advance k) (get_or U k []) next = g.2 ∙ ap (λ (s : List ℕ). along (advance k) s next) (u_column S h) in
           ⊎_elim
-          (λ z. next_on (S.promised.rise j) (w.next_at j f) ((S.promised.across j k).1 z.1) (ap (λ (s : List ℕ). get_or s j 0) e ∙ advance_hit k (S.promised.once k) next j z.1 f (omega (arith, w.next_long))))
-          (λ z. next_stays (S.promised.rise j) (w.next_at j f) (λ m. z.1 ((S.promised.across j k).0 m)) (ap (λ (s : List ℕ). get_or s j 0) e ∙ advance_missing k (get_or U k []) next j z.1))
+          (λ z. next_on (S.promised.rise j) (w.next_at j f) ((S.promised.across j k).1 z.1) (ap (λ (s : List ℕ). get_or s j 0) e ∙
+          advance_hit k (S.promised.once k) next j z.1 f (omega (arith, w.next_long))))
+          (λ z. next_stays (S.promised.rise j) (w.next_at j f) (λ m. z.1 ((S.promised.across j k).0 m)) (ap (λ (s : List ℕ). get_or s j 0) e ∙
+          advance_missing k (get_or U k []) next j z.1))
           (listed-or-not j (get_or U k []))
 
       pivot_is : pivot ≡ (left_step (matrix n n p i v) U L k w.done).pivot
@@ -283,7 +310,8 @@ module _ {n : ℕ} {p i : List ℕ} {v : List Float} {up ui lp li : List ℕ} {r
 
       -- and the column of L is finished
       module _ (t : lt none pivot ≡ true) {d : Float} (o : d ≡ root_of pivot) {lx1 y1 : List Float} {next2 : List ℕ}
-          (f : (lx1 ≡ placed (get_or lp k 0) (get_or lp (k + 1) 0) lx (quotients d (column lp k li) y)) × (y1 ≡ along zero_at (column lp k li) y) × (next2 ≡ set next1 k (get_or lp k 0 + 1))) where
+          (f : (lx1 ≡ placed (get_or lp k 0) (get_or lp (k + 1) 0) lx (quotients d (column lp k li) y)) × (y1 ≡ along zero_at (column lp k li) y) ×
+          (next2 ≡ set next1 k (get_or lp k 0 + 1))) where
         ys : List Float
         ys = quotients d (column lp k li) y
 
@@ -300,7 +328,8 @@ module _ {n : ℕ} {p i : List ℕ} {v : List Float} {up ui lp li : List ℕ} {r
         more-is =
             ap (λ (a : List ℕ). w.done ++ (quotients d a y ∷ [])) (l_column S h)
             ∙ ap (λ (a : List Float). w.done ++ (quotients d (get_or L k []) a ∷ [])) x_is
-            ∙ ap (λ (a : Float). w.done ++ (quotients a (get_or L k []) (left_x (matrix n n p i v) U L k w.done) ∷ [])) (o ∙ ap root_of (g.0 ∙ ap (λ (s : List Float). get_or s k nan) x_is))
+            ∙ ap (λ (a : Float). w.done ++ (quotients a (get_or L k []) (left_x (matrix n n p i v) U L k w.done) ∷ []))
+            (o ∙ ap root_of (g.0 ∙ ap (λ (s : List Float). get_or s k nan) x_is))
 
         flat-more : flatten more ≡ flatten w.done ++ ys
         unfolding more
@@ -316,8 +345,11 @@ module _ {n : ℕ} {p i : List ℕ} {v : List Float} {up ui lp li : List ℕ} {r
         more-starts : (j : ℕ) → j ≤ k + 1 → length (flatten (take j more)) ≡ get_or lp j 0
         unfolding more
         more-starts j b =
-            ⊎_elim (λ (z : j ≤ k). ap (λ (a : List (List Float)). length (flatten a)) (take-append-le j w.done (ys ∷ []) (omega (arith, w.count))) ∙ w.starts j z)
-            (λ (z : k < j). (let e : j ≡ k + 1 = omega arith in rw e (ap (λ (a : List (List Float)). length (flatten a)) (take_all (k + 1) more (omega (arith, more-count))) ∙ more_long))) (le-or-lt j k)
+            ⊎_elim (λ (z : j ≤ k). ap (λ (a : List (List Float)). length (flatten a)) (take-append-le j w.done (ys ∷ []) (omega (arith, w.count))) ∙
+            w.starts j z)
+            (λ (z : k < j). (let e : j ≡ k + 1 = omega arith in
+            rw e (ap (λ (a : List (List Float)). length (flatten a)) (take_all (k + 1) more (omega (arith, more-count))) ∙ more_long)))
+            (le-or-lt j k)
 
         abbrev rest_of : List Float
         rest_of = drop (get_or lp (k + 1) 0 - get_or lp k 0) (drop (get_or lp k 0) lx)
@@ -326,7 +358,8 @@ module _ {n : ℕ} {p i : List ℕ} {v : List Float} {up ui lp li : List ℕ} {r
         unfolding ys
         more-held =
             let a : take (get_or lp k 0) lx ≡ flatten w.done = ap (λ (m : ℕ). take m lx) (sym done_long) ∙ w.held in
-            let b : lx1 ≡ flatten more ++ rest_of = f.0 ∙ ap (λ (z : List Float). z ++ (ys ++ rest_of)) a ∙ sym (append_assoc (flatten w.done) ys rest_of) ∙ ap (λ (z : List Float). z ++ rest_of) (sym flat-more) in
+            let b : lx1 ≡ flatten more ++ rest_of = f.0 ∙ ap (λ (z : List Float). z ++ (ys ++ rest_of)) a ∙
+            sym (append_assoc (flatten w.done) ys rest_of) ∙ ap (λ (z : List Float). z ++ rest_of) (sym flat-more) in
             ap (take (length (flatten more))) b ∙ take-append_seam (flatten more) rest_of
 
         lx_in : get_or lp (k + 1) 0 ≤ length lx
@@ -341,19 +374,28 @@ module _ {n : ℕ} {p i : List ℕ} {v : List Float} {up ui lp li : List ℕ} {r
 
         lx1_rest : drop (entries U) lx1 ≡ drop (entries U) lx
         unfolding ys
-        lx1_rest = drop-same nan (entries U) lx1 lx lx1_long (λ q b. ap (λ (z : List Float). get_or z q nan) f.0 ∙ placed-after nan (get_or lp k 0) (get_or lp (k + 1) 0) lx ys lp_order lx_in ys_long q (omega (arith, l_end S h)))
+        lx1_rest = drop-same nan (entries U) lx1 lx lx1_long (λ q b. ap (λ (z : List Float). get_or z q nan) f.0 ∙
+            placed-after nan (get_or lp k 0) (get_or lp (k + 1) 0) lx ys lp_order lx_in ys_long q (omega (arith, l_end S h)))
 
         next2_at : (j : ℕ) → j < k + 1 → Next (k + 1) (get_or L j []) (get_or lp j 0) (get_or next2 j 0)
         next2_at j b =
             ⊎_elim
             (λ (z : k ≤ j).
             (let e : j ≡ k = omega arith in
-            let m : get_or next2 k 0 ≡ get_or lp k 0 + 1 = ap (λ (s : List ℕ). get_or s k 0) f.2 ∙ get_or-set_same next1 k _ 0 (omega (arith, next1_long)) in
-            rw e (record { m = 1; is = m; cut = cut_first (get_or L k []) (S.promised.rise k) (λ q r. (l_row S h q r).0) (diagonal-in S Q h w.done (g.0 ∙ ap (λ (s : List Float). get_or s k nan) x_is) t) })))
-            (λ (z : j < k). (let m : get_or next2 j 0 ≡ get_or next1 j 0 = ap (λ (s : List ℕ). get_or s j 0) f.2 ∙ get_or-set_other next1 k j _ 0 (λ (e : j ≡ k). omega arith) in rw m (next1_at j z))) (le-or-lt k j)
+            let m : get_or next2 k 0 ≡ get_or lp k 0 + 1 = ap (λ (s : List ℕ). get_or s k 0) f.2 ∙
+            get_or-set_same next1 k _ 0 (omega (arith, next1_long)) in
+            rw e (record {
+              m = 1;
+              is = m;
+              cut = cut_first (get_or L k []) (S.promised.rise k) (λ q r. (l_row S h q r).0)
+                  (diagonal-in S Q h w.done (g.0 ∙ ap (λ (s : List Float). get_or s k nan) x_is) t);
+            })))
+            (λ (z : j < k). (let m : get_or next2 j 0 ≡ get_or next1 j 0 = ap (λ (s : List ℕ). get_or s j 0) f.2 ∙
+            get_or-set_other next1 k j _ 0 (λ (e : j ≡ k). omega arith) in rw m (next1_at j z))) (le-or-lt k j)
 
         y1_zeros : y1 ≡ replicate n none
-        y1_zeros = ext_get_or nan y1 (replicate n none) (y1_long ∙ sym (length-replicate n none)) (λ z b. at z (omega (arith, y1_long)) ∙ sym (get_or-replicate n z none nan (omega (arith, y1_long))))
+        y1_zeros = ext_get_or nan y1 (replicate n none) (y1_long ∙ sym (length-replicate n none)) (λ z b. at z (omega (arith, y1_long)) ∙
+            sym (get_or-replicate n z none nan (omega (arith, y1_long))))
           where
             e : y1 ≡ along zero_at (get_or L k []) y
             e = f.1 ∙ ap (λ (r : List ℕ). along zero_at r y) (l_column S h)
@@ -364,7 +406,8 @@ module _ {n : ℕ} {p i : List ℕ} {v : List Float} {up ui lp li : List ℕ} {r
             at : (z : ℕ) → z < n → get_or y1 z nan ≡ none
             at z b =
                 ap (λ (s : List Float). get_or s z nan) e
-                ∙ ⊎_elim (λ m. zero_on (get_or L k []) y z (omega (arith, l, x_long)) m.1) (λ m. zero_off (get_or L k []) y z m.1 ∙ ap (λ (s : List Float). get_or s z nan) x_is ∙ x_off S Q h w.done m.1 b) (listed-or-not z (get_or L k []))
+                ∙ ⊎_elim (λ m. zero_on (get_or L k []) y z (omega (arith, l, x_long)) m.1) (λ m. zero_off (get_or L k []) y z m.1 ∙
+                ap (λ (s : List Float). get_or s z nan) x_is ∙ x_off S Q h w.done m.1 b) (listed-or-not z (get_or L k []))
 
         pub state_turn : State n p i v lp lx₀ next2 lx1 y1 (k + 1)
         state_turn =

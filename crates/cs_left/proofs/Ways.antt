@@ -37,7 +37,8 @@ module _ {n : ℕ} {p i : List ℕ} {v : List Float} {up ui lp li : List ℕ} {r
       record {
         stored = record { few = S.valid.pattern.cols; each = λ k h. p_within S h; rise = S.valid.pattern.rise };
         held = record { few = S.valid.pattern.cols; each = λ k h. l_within S h; rise = λ k h. rw (l_column S h) (rising_rises (S.promised.rise k)) };
-        mirrored = λ r z h g m. rw (l_column S {k = r} (omega arith)) ((S.promised.across r z).1 (S.promised.closed.stores r z (omega arith) (rw (column-at (pattern n n p i) z h) m)));
+        mirrored = λ r z h g m. rw (l_column S {k = r} (omega arith))
+            ((S.promised.across r z).1 (S.promised.closed.stores r z (omega arith) (rw (column-at (pattern n n p i) z h) m)));
         below = S.valid.pattern.below;
         room = refl;
       }
@@ -47,13 +48,16 @@ module _ {n : ℕ} {p i : List ℕ} {v : List Float} {up ui lp li : List ℕ} {r
   strays_are =
       ap some
       (chosen_alike n (λ k. stray_in k (column lp k li) (column p k i)) (stray (columns (pattern n n p i)) (lower (columns (pattern n n p i))))
-      (λ k h. ap (λ (l : List ℕ). stray_in k l (column p k i)) (l_column S h) ∙ ap (stray_in k (get_or (lower (columns (pattern n n p i))) k [])) (sym (column-at (pattern n n p i) k h))))
+      (λ k h. ap (λ (l : List ℕ). stray_in k l (column p k i)) (l_column S h) ∙ ap (stray_in k (get_or (lower (columns (pattern n n p i))) k []))
+      (sym (column-at (pattern n n p i) k h))))
 
 -- ---- scratch: cleared, lent in part, and cleared again
-again : {A : Type 0} (z : A) (n : ℕ) (w ys : List A) {w1 : List A} → n + 1 ≤ length w → w1 ≡ cleared z (n + 1) w → length ys ≡ length (part 0 n w1) → cleared z (n + 1) (placed 0 n w1 ys) ≡ cleared z (n + 1) w
+again : {A : Type 0} (z : A) (n : ℕ) (w ys : List A) {w1 : List A} → n + 1 ≤ length w → w1 ≡ cleared z (n + 1) w → length ys ≡ length (part 0 n w1)
+    → cleared z (n + 1) (placed 0 n w1 ys) ≡ cleared z (n + 1) w
 again z n w ys {w1} h e l =
     let a : n + 1 ≤ length w1 = omega (arith, ap length e, length-cleared z (n + 1) w) in
-    cleared-after z n (n + 1) w1 ys (omega arith) (omega arith) (l ∙ part_long n w1 (omega arith)) ∙ ap (cleared z (n + 1)) e ∙ cleared-again z (n + 1) w
+    cleared-after z n (n + 1) w1 ys (omega arith) (omega arith) (l ∙ part_long n w1 (omega arith)) ∙ ap (cleared z (n + 1)) e ∙
+    cleared-again z (n + 1) w
 
 -- ---- the ways out
 module _ (nrows n : ℕ) (p i : List ℕ) (v : List Float) (tr up ui lp li : List ℕ) (lx : List Float) (w1 w2 w3 : List ℕ) (x : List Float) where
@@ -73,9 +77,11 @@ module _ (nrows n : ℕ) (p i : List ℕ) (v : List Float) (tr up ui lp li : Lis
   rest = (9, strays a) ∷ (11, eqb (left a).answer.number 11) ∷ []
 
   abbrev pub Told : Factored → List Float → Scratch → Type 0
-  Told r out work = (r ≡ answer (number a given (lent lx old)) (left a)) × (lent out work ≡ leaves r.number (needed (pattern nrows n p i)) (written t (left a) lx) (lent lx old))
+  Told r out work = (r ≡ answer (number a given (lent lx old)) (left a)) ×
+      (lent out work ≡ leaves r.number (needed (pattern nrows n p i)) (written t (left a) lx) (lent lx old))
 
-  module _ {r : ℕ} {w1a w2a w3a : List ℕ} {xa : List Float} (e : (r ≡ lowest (judged_factor a given (length lx) old)) × (scratch w1a w2a w3a xa ≡ worked r (needed (pattern nrows n p i)) old)) where
+  module _ {r : ℕ} {w1a w2a w3a : List ℕ} {xa : List Float} (e : (r ≡ lowest (judged_factor a given (length lx) old)) ×
+      (scratch w1a w2a w3a xa ≡ worked r (needed (pattern nrows n p i)) old)) where
     pub way-judged : (r ≡ 0 → ⊥) → {s : Factored} → s ≡ factored r 0 none → Told s lx (scratch w1a w2a w3a xa)
     unfolding number
     way-judged h f = rw f (at_judge a given lx old rest t (left a) e.0 h e.1)
@@ -126,7 +132,8 @@ module _ (nrows n : ℕ) (p i : List ℕ) (v : List Float) (tr up ui lp li : Lis
       pub way_x_long : (zs : List Float) → length zs ≡ length (part 0 n xa) → length (placed 0 n xa zs) ≡ length xa
       way_x_long zs l = back_long n xa zs way_x l
 
-      module _ {b : Bool} {w2b : List ℕ} (g : (b ≡ some (chosen n (λ k. stray_in k (column lp k li) (column p k i)))) × (w2b ≡ cleared 0 (n + 1) w2a)) where
+      module _ {b : Bool} {w2b : List ℕ} (g : (b ≡ some (chosen n (λ k. stray_in k (column lp k li) (column p k i)))) ×
+          (w2b ≡ cleared 0 (n + 1) w2a)) where
         stray-square : strays (matrix n n p i v) ≡ b
         stray-square = sym (g.0 ∙ strays_are P.served)
 
@@ -161,18 +168,23 @@ module _ (nrows n : ℕ) (p i : List ℕ) (v : List Float) (tr up ui lp li : Lis
           ends : lowest rest ≡ cond (eqb (left a).answer.number 11) 11 0
           ends = rw (stray-told ∙ q) refl
 
-          module _ {s1 : Factored} {lx1 : List Float} (r1 : (s1 ≡ (left (matrix n n p i v)).answer) × (lx1 ≡ written (entries (upper (columns (pattern n n p i)))) (left (matrix n n p i v)) lx))
+          module _ {s1 : Factored} {lx1 : List Float} (r1 : (s1 ≡ (left (matrix n n p i v)).answer) ×
+              (lx1 ≡ written (entries (upper (columns (pattern n n p i)))) (left (matrix n n p i v)) lx))
               (ys : List ℕ) (zs : List Float) (y_long : length ys ≡ length (part 0 n w1a)) (z-long : length zs ≡ length (part 0 n xa)) where
-            wiped-again : {s : Scratch} → s ≡ wiped (n + 1) (scratch (placed 0 n w1a ys) w2b w3a (placed 0 n xa zs)) → s ≡ wiped (needed (pattern nrows n p i)) old
+            wiped-again : {s : Scratch} → s ≡ wiped (n + 1) (scratch (placed 0 n w1a ys) w2b w3a (placed 0 n xa zs)) →
+                s ≡ wiped (needed (pattern nrows n p i)) old
             unfolding wiped
             wiped-again c =
                 c
-                ∙ wiped_each (n + 1) old (again 0 n w1 ys P.wide.in_w1 w1_is y_long) (ap (cleared 0 (n + 1)) (w2_back ∙ w2_is) ∙ cleared-again 0 (n + 1) w2) (ap (cleared 0 (n + 1)) w3_is ∙ cleared-again 0 (n + 1) w3)
+                ∙ wiped_each (n + 1) old (again 0 n w1 ys P.wide.in_w1 w1_is y_long) (ap (cleared 0 (n + 1)) (w2_back ∙ w2_is) ∙
+                cleared-again 0 (n + 1) w2) (ap (cleared 0 (n + 1)) w3_is ∙ cleared-again 0 (n + 1) w3)
                 (again none n x zs P.wide.in_x xa_is z-long)
                 ∙ ap (λ (k : ℕ). wiped k old) (sym P.need)
 
             pub way-done : {s : Scratch} → s ≡ wiped (n + 1) (scratch (placed 0 n w1a ys) w2b w3a (placed 0 n xa zs)) → Told s1 lx1 s
             unfolding number left
             way-done c =
-                at-end a given lx old rest t (left a) e.0 h ends (r1.1 ∙ ap (λ (k : ℕ). written k (left (matrix n n p i v)) lx) count_is ∙ ap (λ (o : Outcome). written t o lx) left_is) (wiped-again c)
-                (factor-ends (left_step a (upper (columns (pattern nrows n p i))) (lower (columns (pattern nrows n p i)))) n 0 []) (r1.0 ∙ ap (λ (o : Outcome). o.answer) left_is)
+                at-end a given lx old rest t (left a) e.0 h ends (r1.1 ∙ ap (λ (k : ℕ). written k (left (matrix n n p i v)) lx) count_is ∙
+                ap (λ (o : Outcome). written t o lx) left_is) (wiped-again c)
+                (factor-ends (left_step a (upper (columns (pattern nrows n p i))) (lower (columns (pattern nrows n p i)))) n 0 []) (r1.0 ∙
+                ap (λ (o : Outcome). o.answer) left_is)

@@ -25,7 +25,8 @@ module _ {k a e : ℕ} {p i : List ℕ} (w : Within k p i) (x : a ≡ get_or p k
   within-part l = rw (x, y) refl
 
 -- ---- `finish`
-module _ {k s e m : ℕ} {lp li next : List ℕ} {lx : List Float} (w : Finishes k lp li lx next m) (a : s ≡ get_or lp k 0) (b : e ≡ get_or lp (k + 1) 0) where
+module _ {k s e m : ℕ} {lp li next : List ℕ} {lx : List Float} (w : Finishes k lp li lx next m) (a : s ≡ get_or lp k 0)
+    (b : e ≡ get_or lp (k + 1) 0) where
   pub finish_order : s ≤ e
   finish_order = within_order w.laid a b
 
@@ -42,7 +43,8 @@ module _ {k s e m : ℕ} {lp li next : List ℕ} {lx : List Float} (w : Finishes
   finish_asks = rw (within-part w.laid a b li, length_part s e lx finish_lx, a, b) w.places
 
   pub finished : (d : Float) (x : List Float) {ys y : List Float} → (ys ≡ quotients d (part s e li) x) × (y ≡ along zero_at (part s e li) x)
-      → (placed s e lx ys ≡ placed (get_or lp k 0) (get_or lp (k + 1) 0) lx (quotients d (column lp k li) x)) × (y ≡ along zero_at (column lp k li) x) × (set next k (s + 1) ≡ set next k (get_or lp k 0 + 1))
+      → (placed s e lx ys ≡ placed (get_or lp k 0) (get_or lp (k + 1) 0) lx (quotients d (column lp k li) x)) ×
+      (y ≡ along zero_at (column lp k li) x) × (set next k (s + 1) ≡ set next k (get_or lp k 0 + 1))
   finished d x {ys} {y} g =
       let z = within-part w.laid a b li in (
         ap (placed s e lx) (g.0 ∙ ap (λ (l : List ℕ). quotients d l x) z) ∙ (rw (a, b) refl),
@@ -63,13 +65,16 @@ module _ {k m : ℕ} {p i up ui lp li next : List ℕ} {v lx : List Float} (w : 
       pub gather_adds : {l : ℕ} → l ≡ m → Crossings k (part b c ui) lp li lx next l
       gather_adds l = rw (within-part w.listed o n ui, l) w.crossings
 
-      pub gathered : (y x : List Float) → y ≡ over (put_at k) (part a e i) (part a e v) x → {z : List Float} {next1 : List ℕ} → (z ≡ add_held k lp li lx (part b c ui) y) × (next1 ≡ along (advance k) (part b c ui) next)
-          → (get_or z k nan ≡ get_or z k nan) × (z ≡ add_held k lp li lx (column up k ui) (over (put_at k) (column p k i) (column p k v) x)) × (next1 ≡ along (advance k) (column up k ui) next)
+      pub gathered : (y x : List Float) → y ≡ over (put_at k) (part a e i) (part a e v) x → {z : List Float} {next1 : List ℕ} →
+          (z ≡ add_held k lp li lx (part b c ui) y) × (next1 ≡ along (advance k) (part b c ui) next)
+          → (get_or z k nan ≡ get_or z k nan) × (z ≡ add_held k lp li lx (column up k ui) (over (put_at k) (column p k i) (column p k v) x)) ×
+          (next1 ≡ along (advance k) (column up k ui) next)
       gathered y x q {z} {next1} h =
           let us = within-part w.listed o n ui in (
             refl,
             h.0
                 ∙ ap (λ (u : List ℕ). add_held k lp li lx u y) us
-                ∙ ap (add_held k lp li lx (column up k ui)) (q ∙ ap (λ (u : List ℕ). over (put_at k) u (part a e v) x) (within-part w.stored f g i) ∙ ap (λ (u : List Float). over (put_at k) (column p k i) u x) (within-part w.stored f g v)),
+                ∙ ap (add_held k lp li lx (column up k ui)) (q ∙ ap (λ (u : List ℕ). over (put_at k) u (part a e v) x) (within-part w.stored f g i)
+                ∙ ap (λ (u : List Float). over (put_at k) (column p k i) u x) (within-part w.stored f g v)),
             h.1 ∙ ap (λ (u : List ℕ). along (advance k) u next) us,
           )

@@ -35,19 +35,24 @@ module _ {n : ℕ} {p i : List ℕ} {v : List Float} {up ui lp li : List ℕ} {r
     number_is = ap (λ (x : Factored). x.number) (sym E.answer_is)
 
     -- by 11
-    pub work_blank : r.number ≡ 11 → {t : ℕ} → t ≡ get_or up n 0 → {out : List Float} → out ≡ cleared none t new → (r ≡ f.answer) × (out ≡ written (entries U) f old)
+    pub work_blank : r.number ≡ 11 → {t : ℕ} → t ≡ get_or up n 0 → {out : List Float} → out ≡ cleared none t new → (r ≡ f.answer) ×
+        (out ≡ written (entries U) f old)
     unfolding written onto
     work_blank h {t} e {out} c =
         let m : entries U ≤ length new = omega (arith, S.roomy) in
-        let d : out ≡ replicate (entries U) none ++ drop (entries U) old = c ∙ ap (λ (k : ℕ). cleared none k new) (e ∙ up-last) ∙ cleared-is none (entries U) new m ∙ ap (λ (z : List Float). replicate (entries U) none ++ z) E.rest in
+        let d : out ≡ replicate (entries U) none ++ drop (entries U) old = c ∙ ap (λ (k : ℕ). cleared none k new) (e ∙ up-last) ∙
+        cleared-is none (entries U) new m ∙ ap (λ (z : List Float). replicate (entries U) none ++ z) E.rest in
         (E.answer_is, d ∙ (rw (eq-eqb f.answer.number 11 (number_is ∙ h), length-replicate (entries U) none) refl))
 
     -- by 0
     pub work-whole : (r.number ≡ 11 → ⊥) → (r ≡ f.answer) × (new ≡ written (entries U) f old)
     unfolding written onto left
     work-whole h =
-        let z : r.number ≡ 0 = ⊎_elim (λ (q : f.answer ≡ factored 0 0 none). sym number_is ∙ ap (λ (x : Factored). x.number) q) (λ (q : f.answer.number ≡ 11). absurd (h (sym number_is ∙ q))) (factor-ends (left_step (matrix n n p i v) U (lower (columns (pattern n n p i)))) n 0 []) in
+        let z : r.number ≡ 0 = ⊎_elim (λ (q : f.answer ≡ factored 0 0 none). sym number_is ∙ ap (λ (x : Factored). x.number) q)
+        (λ (q : f.answer.number ≡ 11). absurd (h (sym number_is ∙ q)))
+        (factor-ends (left_step (matrix n n p i v) U (lower (columns (pattern n n p i)))) n 0 []) in
         let w = E.whole z in
         let m : length (flatten f.columns) ≡ entries U = ap length (sym w) ∙ length-take-le (entries U) new (omega (arith, S.roomy)) in
-        let d : new ≡ flatten f.columns ++ drop (entries U) old = sym (take-append-drop (entries U) new) ∙ ap (λ (a : List Float). a ++ drop (entries U) new) w ∙ ap (λ (a : List Float). flatten f.columns ++ a) E.rest in
+        let d : new ≡ flatten f.columns ++ drop (entries U) old = sym (take-append-drop (entries U) new) ∙
+        ap (λ (a : List Float). a ++ drop (entries U) new) w ∙ ap (λ (a : List Float). flatten f.columns ++ a) E.rest in
         (E.answer_is, d ∙ (rw (ne_eqb f.answer.number 11 (λ q. h (sym number_is ∙ q)), m) refl))

@@ -1,5 +1,6 @@
 -- What the steps of the left factoring ask and leave, on plain lists. Assumes nothing.
-use Rattle.std.specs.Prelude.{◌≡◌, Bool, true, false, not, cond, ◌&&◌, ◌⊎◌, ℕ, ◌+◌, ◌-◌, ◌≤◌, ◌<◌, ltb, eqb, Float, length, get_or, set, take, drop, replicate}
+use Rattle.std.specs.Prelude.{◌≡◌, Bool, true, false, not, cond, ◌&&◌, ◌⊎◌, ℕ, ◌+◌, ◌-◌, ◌≤◌, ◌<◌, ltb, eqb, Float, length, get_or, set, take, drop}
+use Rattle.std.specs.Prelude.{replicate}
 use mathlib.Core.List.{List, flatten, Memᴰ}
 use Rattle.lists.specs.Calls.{none}
 use Rattle.lists.specs.Choices.{some_of}

@@ -25,7 +25,8 @@ contrary x y = ⊎_elim (λ (h : y ≤ x). rw (le-leb y x h, le-ltb x y h)) (λ 
 
 rises-count : (l : List ℕ) → eqb (fallen l) 0 ≡ rises l
 unfolding fallen rises
-rises-count l = tally-every (length l - 1) (λ k. ltb (get_or l k 0) (get_or l (k + 1) 0)) (falls_at l) (λ k h. contrary (get_or l k 0) (get_or l (k + 1) 0))
+rises-count l = tally-every (length l - 1) (λ k. ltb (get_or l k 0) (get_or l (k + 1) 0)) (falls_at l)
+    (λ k h. contrary (get_or l k 0) (get_or l (k + 1) 0))
 
 pub risen : (l : List ℕ) {n : ℕ} → n ≡ fallen l → n ≡ 0 → rises l ≡ true
 risen l e h = sym (rises-count l) ∙ eq-eqb (fallen l) 0 (sym e ∙ h)
@@ -81,17 +82,24 @@ module _ (i : List ℕ) where
   parts zero e h =
       let s = start_first i 0 e refl in
       let z : e - 0 - 1 ≡ e - 1 = omega arith in
-      rw (← s, z) (omega (arith, tally-none (falls_at i), tally-same (e - 1) (λ k. falls_at i (0 + k)) (falls_at i) (λ k l. ap (falls_at i) (omega arith))))
+      rw (← s, z) (omega (
+        arith,
+        tally-none (falls_at i),
+        tally-same (e - 1) (λ k. falls_at i (0 + k)) (falls_at i)
+            (λ k l. ap (falls_at i) (omega arith)),
+      ))
   parts (suc a) e h = ⊎_elim same more (eq-or-lt_of_le h)
     where
-      same : suc a ≡ e → tally (e - 1) (falls_at i) ≡ tally (suc a - 1) (falls_at i) + cond (start_falls i (suc a) e) 1 0 + tally (e - suc a - 1) (λ k. falls_at i (suc a + k))
+      same : suc a ≡ e → tally (e - 1) (falls_at i) ≡ tally (suc a - 1) (falls_at i) + cond (start_falls i (suc a) e) 1 0 + tally (e - suc a - 1)
+          (λ k. falls_at i (suc a + k))
       same f =
           let s = start-empty i (suc a) e (λ z. omega arith) (omega arith) in
           let z : e - suc a - 1 ≡ 0 = omega arith in
           let y : suc a - 1 ≡ e - 1 = omega arith in
           rw (← s, z, y) (omega (arith, tally-none (λ k. falls_at i (suc a + k))))
 
-      more : suc a < e → tally (e - 1) (falls_at i) ≡ tally (suc a - 1) (falls_at i) + cond (start_falls i (suc a) e) 1 0 + tally (e - suc a - 1) (λ k. falls_at i (suc a + k))
+      more : suc a < e → tally (e - 1) (falls_at i) ≡ tally (suc a - 1) (falls_at i) + cond (start_falls i (suc a) e) 1 0 + tally (e - suc a - 1)
+          (λ k. falls_at i (suc a + k))
       more f =
           let y : suc a - 1 ≡ a = omega arith in
           let s = start_test i (suc a) e (λ z. omega arith) f in
@@ -133,7 +141,8 @@ module _ {ncols : ℕ} {p i : List ℕ} (v : Parted ncols p i) where
   none_within : (m : ℕ) → eqb (within m) 0 ≡ every m (λ j. rises (column p j i))
   unfolding within every
   none_within zero = refl
-  none_within (suc m) = go (within m) (fallen (column p m i)) (every m (λ j. rises (column p j i))) (rises (column p m i)) (none_within m) (rises-count (column p m i))
+  none_within (suc m) = go (within m) (fallen (column p m i)) (every m (λ j. rises (column p j i))) (rises (column p m i)) (none_within m)
+      (rises-count (column p m i))
     where
       go : (x y : ℕ) (b c : Bool) → eqb x 0 ≡ b → eqb y 0 ≡ c → eqb (x + y) 0 ≡ (b && c)
       go zero zero b c e f = rw (← e, ← f)

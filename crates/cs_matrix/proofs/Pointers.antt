@@ -65,8 +65,14 @@ pub record Between (p : List ℕ) (n j a e : ℕ) : Type 0 where
   pub starts : a ≡ get_or p j 0
   pub ends : e ≡ get_or p (j + 1) 0
 
-pub between : {p : List ℕ} {n ncols j a e : ℕ} → Pointers p n → length p ≡ ncols + 1 → j < ncols → a ≡ get_or p j 0 → e ≡ get_or p (j + 1) 0 → Between p n j a e
-between {p = p} {j = j} v l h f g = record { order = omega (arith, v.climbs j (omega arith)); inside = omega (arith, at_most v (j + 1) (omega arith)); starts = f; ends = g }
+pub between : {p : List ℕ} {n ncols j a e : ℕ} → Pointers p n → length p ≡ ncols + 1 → j < ncols → a ≡ get_or p j 0 → e ≡ get_or p (j + 1) 0 →
+    Between p n j a e
+between {p = p} {j = j} v l h f g = record {
+  order = omega (arith, v.climbs j (omega arith));
+  inside = omega (arith, at_most v (j + 1) (omega arith));
+  starts = f;
+  ends = g;
+}
 
 module _ {A : Type 0} {p : List ℕ} {n j a e : ℕ} (b : Between p n j a e) (l : List A) where
   pub column-is : part a e l ≡ column p j l

@@ -79,7 +79,8 @@ pub with_2 : (a : Pattern) (b : Bool) {r : ℕ} → r ≡ lowest (judged_pattern
 with_2 a b e h = rw (e, h) (lowest-both 1 (judged_pattern a) (disagree true) (omega arith) (from-pattern a) (from-disagree true))
 
 pub without_2 : (a : Pattern) (b : Bool) {r : ℕ} → r ≡ lowest (judged_pattern a) → b ≡ false → r ≡ lowest (both (judged_pattern a) (disagree b))
-without_2 a b {r = r} e h = rw h (lower_alone r ∙ (rw e (lowest-both 1 (judged_pattern a) (disagree false) (omega arith) (from-pattern a) (from-disagree false))))
+without_2 a b {r = r} e h = rw h (lower_alone r ∙
+    (rw e (lowest-both 1 (judged_pattern a) (disagree false) (omega arith) (from-pattern a) (from-disagree false))))
 
 module _ (a : Matrix) {r : ℕ} (e : r ≡ lowest (judged_pattern a.pattern)) where
   pub matrix_2 : (length a.pattern.i ≡ length a.v → ⊥) → {s : ℕ} → s ≡ lower r 2 → s ≡ lowest (judged a)

@@ -49,11 +49,19 @@ from-square a = (refl, (refl, (refl, (refl, (refl, omega arith)))))
 
 pub early_matrix : (a : Matrix) → Early (judged_square_matrix a)
 unfolding judged_square_matrix judged judged_pattern both
-early_matrix a = (omega arith, omega arith, (omega arith, omega arith, (omega arith, omega arith, (omega arith, omega arith, (omega arith, omega arith, omega arith)))))
+early_matrix a = (
+  omega arith,
+  omega arith,
+  (omega arith, omega arith, (omega arith, omega arith, (omega arith, omega arith, (omega arith, omega arith, omega arith)))),
+)
 
 early_square : (a : Pattern) → Early (judged_square a)
 unfolding judged_square judged_pattern both
-early_square a = (omega arith, omega arith, (omega arith, omega arith, (omega arith, omega arith, (omega arith, omega arith, (omega arith, omega arith, omega arith)))))
+early_square a = (
+  omega arith,
+  omega arith,
+  (omega arith, omega arith, (omega arith, omega arith, (omega arith, omega arith, (omega arith, omega arith, omega arith)))),
+)
 
 -- ---- `prepare`
 module _ (a : Pattern) (old : Scratch) where
@@ -63,7 +71,8 @@ module _ (a : Pattern) (old : Scratch) where
   pub early_6 : Early judged6
   early_6 = early_append (judged_square a) ((6, narrow (needed a) old) ∷ []) (early_square a) (omega arith, omega arith, omega arith)
 
-  pub prepare_refused : {r : ℕ} → r ≡ lowest (judged_square a) → (r ≡ 0 → ⊥) → (r ≡ lowest judged6) × (old ≡ cond (eqb r 0) (wiped (needed a) old) old)
+  pub prepare_refused : {r : ℕ} → r ≡ lowest (judged_square a) → (r ≡ 0 → ⊥) → (r ≡ lowest judged6) ×
+      (old ≡ cond (eqb r 0) (wiped (needed a) old) old)
   prepare_refused {r = r} e h = (first (judged_square a) _ e h, rw (ne_eqb r 0 h))
 
   module _ {r m : ℕ} (e : r ≡ lowest (judged_square a)) (h : r ≡ 0) (f : m ≡ max a.nrows a.ncols) where
@@ -77,7 +86,8 @@ module _ (a : Pattern) (old : Scratch) where
     pub prepare_6 : {b : Bool} → b ≡ narrow (m + 1) old → b ≡ true → (6 ≡ lowest judged6) × (old ≡ cond (eqb 6 0) (wiped (needed a) old) old)
     prepare_6 g t = (rw (← then (judged_square a) _ (early_square a) e h, need_is, ← g, t), refl)
 
-    pub prepare_0 : {b : Bool} {s : Scratch} → b ≡ narrow (m + 1) old → b ≡ false → s ≡ wiped (m + 1) old → (0 ≡ lowest judged6) × (s ≡ cond (eqb 0 0) (wiped (needed a) old) old)
+    pub prepare_0 : {b : Bool} {s : Scratch} → b ≡ narrow (m + 1) old → b ≡ false → s ≡ wiped (m + 1) old → (0 ≡ lowest judged6) ×
+        (s ≡ cond (eqb 0 0) (wiped (needed a) old) old)
     prepare_0 g t w = (rw (← then (judged_square a) _ (early_square a) e h, need_is, ← g, t), rw need_is w)
 
 -- ---- after `prepare`
@@ -89,7 +99,8 @@ pub record Prepared (a : Pattern) (old new : Scratch) : Type 0 where
   pub wide : Wide (a.ncols + 1) old
   pub clear : new ≡ wiped (a.ncols + 1) old
 
-pub prepared : (a : Pattern) (old new : Scratch) {r : ℕ} → (r ≡ lowest (judged6 a old)) × (new ≡ cond (eqb r 0) (wiped (needed a) old) old) → r ≡ 0 → Prepared a old new
+pub prepared : (a : Pattern) (old new : Scratch) {r : ℕ} → (r ≡ lowest (judged6 a old)) × (new ≡ cond (eqb r 0) (wiped (needed a) old) old) →
+    r ≡ 0 → Prepared a old new
 unfolding needed
 prepared a old new {r = r} e h =
     let z = lowest-none (judged_square a) ((6, narrow (needed a) old) ∷ []) (early_square a) (sym e.0 ∙ h) in
@@ -107,5 +118,6 @@ prepared a old new {r = r} e h =
     }
 
 -- and where a number applies
-pub unprepared : (a : Pattern) (old new : Scratch) {r : ℕ} → (r ≡ lowest (judged6 a old)) × (new ≡ cond (eqb r 0) (wiped (needed a) old) old) → (r ≡ 0 → ⊥) → new ≡ old
+pub unprepared : (a : Pattern) (old new : Scratch) {r : ℕ} → (r ≡ lowest (judged6 a old)) × (new ≡ cond (eqb r 0) (wiped (needed a) old) old) →
+    (r ≡ 0 → ⊥) → new ≡ old
 unprepared a old new {r = r} e h = rw (ne_eqb r 0 h) at e.1

@@ -11,7 +11,8 @@ use Rattle.lists.specs.Order.{rises, all_below}
 use Rattle.lists.proofs.Bools.{passed_over, not_holds, or-false}
 use Rattle.lists.proofs.Calls.{Early, lowest-both, lower-none}
 use Rattle.lists.proofs.Folds.{every-at, every-all}
-use Rattle.cs_matrix.specs.Matrix.{Pattern, Matrix, Vector, too_large, pointers, columns_rise, judged_pattern, judged, judged_vector, ValidPattern, Valid, ValidVector}
+use Rattle.cs_matrix.specs.Matrix.{Pattern, Matrix, Vector, too_large, pointers, columns_rise, judged_pattern, judged, judged_vector, ValidPattern}
+use Rattle.cs_matrix.specs.Matrix.{Valid, ValidVector}
 use Rattle.cs_matrix.proofs.Pointers.{pointers_mean, pointers-rest}
 use Rattle.cs_matrix.proofs.Refusing.{from-pattern, from-disagree, not-refused}
 
@@ -43,7 +44,8 @@ pattern_valid a v =
     a
     (record { rows = v.rows; cols = v.cols; entries = v.entries })
     v.p_long
-    (sym (pointers-rest a.p (length a.i) v.ptrs.first v.ptrs.last) ∙ every-all _ _ (λ k l. le-leb (get_or a.p k 0) (get_or a.p (k + 1) 0) (v.ptrs.climbs k l)))
+    (sym (pointers-rest a.p (length a.i) v.ptrs.first v.ptrs.last) ∙
+    every-all _ _ (λ k l. le-leb (get_or a.p k 0) (get_or a.p (k + 1) 0) (v.ptrs.climbs k l)))
     below
     risen)
   where
@@ -80,4 +82,8 @@ valid_vector b h =
 -- ---- the numbers of an operand are 1 to 5
 pub early_judged : (a : Matrix) → Early (judged a)
 unfolding judged judged_pattern both
-early_judged a = (omega arith, omega arith, (omega arith, omega arith, (omega arith, omega arith, (omega arith, omega arith, (omega arith, omega arith, omega arith)))))
+early_judged a = (
+  omega arith,
+  omega arith,
+  (omega arith, omega arith, (omega arith, omega arith, (omega arith, omega arith, (omega arith, omega arith, omega arith)))),
+)

@@ -9,7 +9,8 @@ use borrow.Author.Tests.{eq-eqb, ne_eqb}
 use Rattle.cs_matrix.specs.Matrix.{value_at}
 
 -- row r stands at place m, behind smaller ones
-pub value_there : (r m : ℕ) (rows : List ℕ) (vals : List Float) → length vals ≡ length rows → m < length rows → ((q : ℕ) → q < m → get_or rows q 0 < r) → get_or rows m 0 ≡ r → value_at r rows vals ≡ get_or vals m nan
+pub value_there : (r m : ℕ) (rows : List ℕ) (vals : List Float) → length vals ≡ length rows → m < length rows →
+    ((q : ℕ) → q < m → get_or rows q 0 < r) → get_or rows m 0 ≡ r → value_at r rows vals ≡ get_or vals m nan
 unfolding value_at
 value_there r m [] vals l h b e = absurd (omega arith)
 value_there r m (i ∷ rows) [] l h b e = absurd (omega arith)

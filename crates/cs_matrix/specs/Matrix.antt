@@ -1,5 +1,6 @@
 -- A valid matrix, and the numbers that refuse one: document 01, "A valid matrix" and "Refusal numbers". Assumes nothing.
-use Rattle.std.specs.Prelude.{Bool, true, false, not, cond, ◌&&◌, ◌||◌, List, [], ◌∷◌, ◌≡◌, ℕ, ◌+◌, ◌-◌, ◌≤◌, ◌<◌, max, leb, ltb, eqb, Float, length, get_or}
+use Rattle.std.specs.Prelude.{Bool, true, false, not, cond, ◌&&◌, ◌||◌, List, [], ◌∷◌, ◌≡◌, ℕ, ◌+◌, ◌-◌, ◌≤◌, ◌<◌, max, leb, ltb, eqb, Float}
+use Rattle.std.specs.Prelude.{length, get_or}
 use Rattle.lists.specs.Calls.{both, disagree, onto, none}
 use Rattle.lists.specs.Folds.{every}
 use Rattle.lists.specs.Order.{rises, all_below}

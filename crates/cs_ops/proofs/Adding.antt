@@ -63,7 +63,8 @@ length-scaled beta y = length-map y (times beta)
 pub fitting_scaled : {x : Vector} {y t : List Float} (beta : Float) → t ≡ scaled beta y → Fitting x y → Fitting x t
 fitting_scaled {y = y} beta e a = record { alike = a.alike; named = λ k h. rw (e, length-scaled beta y) (a.named k h) }
 
-pub added-done : (alpha beta : Float) (x : Vector) (y₀ : List Float) {t y : List Float} {k : ℕ} → Storing (add_at alpha) x t y k → t ≡ scaled beta y₀ → length x.i ≤ k → y ≡ added alpha x beta y₀
+pub added-done : (alpha beta : Float) (x : Vector) (y₀ : List Float) {t y : List Float} {k : ℕ} → Storing (add_at alpha) x t y k →
+    t ≡ scaled beta y₀ → length x.i ≤ k → y ≡ added alpha x beta y₀
 unfolding added
 added-done alpha beta x y₀ v e h = storing_done (add_at alpha) x v h ∙ ap (over (add_at alpha) x.i x.v) e
 
@@ -84,7 +85,11 @@ module _ (x : Vector) (y : List Float) {r : ℕ} (e : r ≡ lowest (judged_vecto
 
 early_axpy : (x : Vector) (b : Bool) → Early (both (judged_vector x) (disagree b))
 unfolding judged_vector both
-early_axpy x b = (omega arith, omega arith, (omega arith, omega arith, (omega arith, omega arith, (omega arith, omega arith, (omega arith, omega arith, omega arith)))))
+early_axpy x b = (
+  omega arith,
+  omega arith,
+  (omega arith, omega arith, (omega arith, omega arith, (omega arith, omega arith, (omega arith, omega arith, omega arith)))),
+)
 
 not_11 : (x : Vector) (y : List Float) {s : ℕ} → s ≡ axpy_number x y → s ≡ 11 → ⊥
 unfolding axpy_number
@@ -110,5 +115,6 @@ module _ (alpha beta : Float) (x : Vector) (y : List Float) {r : ℕ} (e : r ≡
   at_added b f = at_0 (f ∙ axpy_other alpha beta x y b)
 
 -- ---- the way out of `scale`
-pub scale_refused : (a : Matrix) {r : ℕ} {old : List Float} (w : List Float) → r ≡ lowest (judged a) → (r ≡ 0 → ⊥) → (r ≡ lowest (judged a)) × (old ≡ outputs r w old)
+pub scale_refused : (a : Matrix) {r : ℕ} {old : List Float} (w : List Float) → r ≡ lowest (judged a) → (r ≡ 0 → ⊥) → (r ≡ lowest (judged a)) ×
+    (old ≡ outputs r w old)
 scale_refused a {r = r} {old = old} w e h = (e, left_alone r w old h (λ z. omega (arith, below_7 (judged a) (early_judged a), e, z)))

@@ -1,5 +1,6 @@
 -- What `analyse` answers and leaves, at each of its ways out. Assumes nothing.
-use Rattle.std.proofs.Common.{◌≡◌, ℕ, ◌+◌, ◌-◌, ◌^◌, ◌<◌, ◌≤◌, Bool, true, false, cond, ◌||◌, eqb, ltb, List, [], ◌∷◌, ◌++◌, length, get_or, take, sym, refl, ap, ◌∙◌, ⊎_elim, append_assoc, arith, ltb-false, le-ltb, lt-ltb}
+use Rattle.std.proofs.Common.{◌≡◌, ℕ, ◌+◌, ◌-◌, ◌^◌, ◌<◌, ◌≤◌, Bool, true, false, cond, ◌||◌, eqb, ltb, List, [], ◌∷◌, ◌++◌, length, get_or, take}
+use Rattle.std.proofs.Common.{sym, refl, ap, ◌∙◌, ⊎_elim, append_assoc, arith, ltb-false, le-ltb, lt-ltb}
 use mathlib.Core.List.{flatten}
 use lib.Ieee.{Float}
 use Rattle.lists.specs.Calls.{lowest, onto, none, cleared, Scratch, scratch, wiped, narrow, Lent, lent, leaves}
@@ -59,7 +60,8 @@ module _ (n t a b c d e : ℕ) where
     short_6 g i j h = rw (le-ltb 4194304 t f, le-ltb a n g, le-ltb b (n + 1) i, le-ltb c t j, le-ltb d (n + 1) h)
 
 -- ---- `fill`
-module _ {n t : ℕ} {p i : List ℕ} (v : ValidPattern (pattern n n p i)) {w1 w2 w3 : List ℕ} {out : Analysis} (r : Ready (columns (pattern n n p i)) n t w1 w2 w3 out) where
+module _ {n t : ℕ} {p i : List ℕ} (v : ValidPattern (pattern n n p i)) {w1 w2 w3 : List ℕ} {out : Analysis}
+    (r : Ready (columns (pattern n n p i)) n t w1 w2 w3 out) where
   abbrev C : List (List ℕ)
   C = columns (pattern n n p i)
 
@@ -96,12 +98,14 @@ module _ {n t : ℕ} {p i : List ℕ} (v : ValidPattern (pattern n n p i)) {w1 w
           at =
               λ j l.
               let e : 1 + j ≡ j + 1 = omega arith in
-              get_d_part 1 (n + 1) (placed 0 (n + 1) w3 a) j 0 (omega (arith, many)) ∙ ap (λ (d : List ℕ). get_or d (1 + j) 0) next_is ∙ ap (λ (q : ℕ). get_or (onto w3 (starts 0 L)) q 0) e
+              get_d_part 1 (n + 1) (placed 0 (n + 1) w3 a) j 0 (omega (arith, many)) ∙ ap (λ (d : List ℕ). get_or d (1 + j) 0) next_is ∙
+              ap (λ (q : ℕ). get_or (onto w3 (starts 0 L)) q 0) e
               ∙ get_or-onto-front w3 (starts 0 L) 0 (j + 1) (omega (arith, starts-size, many)) ∙ start-at L (j + 1) (omega arith);
         }
 
     pub fill_columns_asks : {w : List ℕ} → w ≡ cleared 0 n w2
-        → ValidPattern (pattern n n p i) × Given C (part 0 n w1) × (length (part 0 n w) ≡ n) × Zeros (part 0 n w) × Ample C t out.up out.ui (part 1 (n + 1) (placed 0 (n + 1) w3 a)) out.li
+        → ValidPattern (pattern n n p i) × Given C (part 0 n w1) × (length (part 0 n w) ≡ n) × Zeros (part 0 n w) ×
+        Ample C t out.up out.ui (part 1 (n + 1) (placed 0 (n + 1) w3 a)) out.li
     fill_columns_asks {w = w} e = (
       v,
       given v r.tree_is,
@@ -118,14 +122,17 @@ module _ {n t : ℕ} {p i : List ℕ} (v : ValidPattern (pattern n n p i)) {w1 w
     )
 
     -- the counts once they have been used up
-    next-back : (ys : List ℕ) → length ys ≡ length (part 1 (n + 1) (placed 0 (n + 1) w3 a)) → length (placed 1 (n + 1) (placed 0 (n + 1) w3 a) ys) ≡ length w3
+    next-back : (ys : List ℕ) → length ys ≡ length (part 1 (n + 1) (placed 0 (n + 1) w3 a)) → length (placed 1 (n + 1) (placed 0 (n + 1) w3 a) ys)
+        ≡ length w3
     next-back ys e = length-placed 1 (n + 1) (placed 0 (n + 1) w3 a) ys (omega arith) next-end (omega (arith, next-part)) ∙ next_long
 
-    next-kept : (ys : List ℕ) → length ys ≡ length (part 1 (n + 1) (placed 0 (n + 1) w3 a)) → Kept 0 (n + 1) w3 (placed 1 (n + 1) (placed 0 (n + 1) w3 a) ys)
+    next-kept : (ys : List ℕ) → length ys ≡ length (part 1 (n + 1) (placed 0 (n + 1) w3 a)) →
+        Kept 0 (n + 1) w3 (placed 1 (n + 1) (placed 0 (n + 1) w3 a) ys)
     next-kept ys e =
         record {
           long = next-back ys e;
-          rest = λ q l. placed-after 0 1 (n + 1) (placed 0 (n + 1) w3 a) ys (omega arith) next-end (omega (arith, next-part)) q l ∙ ap (λ (d : List ℕ). get_or d q 0) next_is
+          rest = λ q l. placed-after 0 1 (n + 1) (placed 0 (n + 1) w3 a) ys (omega arith) next-end (omega (arith, next-part)) q l ∙
+              ap (λ (d : List ℕ). get_or d q 0) next_is
               ∙ get_or-onto-rest w3 (starts 0 L) 0 q (omega (arith, starts-size));
         }
 
@@ -136,21 +143,28 @@ module _ {n t : ℕ} {p i : List ℕ} (v : ValidPattern (pattern n n p i)) {w1 w
       → (a ≡ onto (part 0 (n + 1) w3) (sums 0 (fronts (n + 1) w3 out.lp))) → (b ≡ onto (part 0 (n + 1) out.lp) (sums 0 (fronts (n + 1) w3 out.lp)))
       → (up ≡ onto out.up (starts 0 (upper C))) × (ui ≡ onto out.ui (flatten (upper C))) × (li ≡ onto out.li (flatten L))
       → length zs ≡ length (part 1 (n + 1) (placed 0 (n + 1) w3 a)) → w2a ≡ cleared 0 n w2 → length ys ≡ length (part 0 n w2a)
-      → (analysis tr up ui (placed 0 (n + 1) out.lp b) li ≡ written (analysed C) out) × Kept 0 (n + 1) w2 (placed 0 n w2a ys) × Kept 0 (n + 1) w3 (placed 1 (n + 1) (placed 0 (n + 1) w3 a) zs)
+      → (analysis tr up ui (placed 0 (n + 1) out.lp b) li ≡ written (analysed C) out) × Kept 0 (n + 1) w2 (placed 0 n w2a ys) ×
+      Kept 0 (n + 1) w3 (placed 1 (n + 1) (placed 0 (n + 1) w3 a) zs)
   unfolding written analysed
   filled_out {w2a = w2a} ys zs d x y g z h m =
       let l : n ≤ length w2a = rw (h, length-cleared 0 n w2) r.w2_long in
       let c = d ∙ zipped-values out.tree (part 0 n w1) copy_asks ∙ ap (onto out.tree) r.tree_is in
-      let f = sums_b L (n + 1) w3 out.lp many r.w3_long r.lp_room r.lengths_are small y in
-      (λ q. analysis (c q) (g.0 q) (g.1 q) (f q) (g.2 q), kept-wider (n + 1) (omega arith) (kept_then (kept-cleared n h) (kept-placed n w2a ys (m ∙ part_long n w2a l) l)), next-kept x zs z)
+      let f = sums_b L (n + 1) w3 out.lp many r.w3_long r.lp_room r.lengths_are small y in (
+        λ q. analysis (c q) (g.0 q) (g.1 q) (f q) (g.2 q),
+        kept-wider (n + 1) (omega arith) (kept_then (kept-cleared n h) (kept-placed n w2a ys (m ∙ part_long n w2a l) l)),
+        next-kept x zs z,
+      )
 
 -- ---- `analyse`
 number_is : (a : Pattern) (old : Lent Analysis) → number a old ≡ lowest (judged6 a old.work ++ ((7, short (analysed (columns a)) old.out) ∷ []))
 unfolding number
-number_is a old = ap lowest (sym (append_assoc (judged_square a) ((6, narrow (needed a) old.work) ∷ []) ((7, short (analysed (columns a)) old.out) ∷ [])))
+number_is a old = ap lowest (sym (append_assoc (judged_square a) ((6, narrow (needed a) old.work) ∷ [])
+    ((7, short (analysed (columns a)) old.out) ∷ [])))
 
-pub at-refused : (a : Pattern) (out : Analysis) (old s : Scratch) {r : ℕ} → (r ≡ lowest (judged6 a old)) × (s ≡ cond (eqb r 0) (wiped (needed a) old) old) → (r ≡ 0 → ⊥)
-    → (r ≡ number a (lent out old)) × (lent out s ≡ leaves r (needed a) (written (analysed (columns a)) out) (lent out old)) × (r ≡ 0 → Analysed a out)
+pub at-refused : (a : Pattern) (out : Analysis) (old s : Scratch) {r : ℕ} → (r ≡ lowest (judged6 a old)) ×
+    (s ≡ cond (eqb r 0) (wiped (needed a) old) old) → (r ≡ 0 → ⊥)
+    → (r ≡ number a (lent out old)) × (lent out s ≡ leaves r (needed a) (written (analysed (columns a)) out) (lent out old)) ×
+    (r ≡ 0 → Analysed a out)
 at-refused a out old s e h = (
   first (judged6 a old) _ e.0 h ∙ sym (number_is a (lent out old)),
   ap (lent out) (unprepared a old s e h) ∙ early (judged6 a old) (early_6 a old) (needed a) _ (lent out old) e.0 h,
@@ -165,7 +179,15 @@ module _ {nrows n : ℕ} {p i w1 w2 w3 : List ℕ} {x : List Float} {old : Scrat
   pub square_valid : ValidPattern (pattern n n p i)
   square_valid =
       let v = P.valid in
-      record { rows = v.cols; cols = v.cols; entries = v.entries; p_long = v.p_long; ptrs = v.ptrs; below = λ k l. omega (arith, v.below k l, P.square); rise = v.rise }
+      record {
+        rows = v.cols;
+        cols = v.cols;
+        entries = v.entries;
+        p_long = v.p_long;
+        ptrs = v.ptrs;
+        below = λ k l. omega (arith, v.below k l, P.square);
+        rise = v.rise;
+      }
 
   w1_is : w1 ≡ cleared 0 (n + 1) old.w1
   unfolding wiped
@@ -196,7 +218,8 @@ module _ {nrows n : ℕ} {p i w1 w2 w3 : List ℕ} {x : List Float} {old : Scrat
   begin_asked = (square_valid, omega (arith, long1), omega (arith, long2), omega (arith, long3))
 
   -- once the scratch is cleared again
-  pub cleared-up : {w1' w2' w3' : List ℕ} {s : Scratch} → Kept 0 (n + 1) w1 w1' → Kept 0 (n + 1) w2 w2' → Kept 0 (n + 1) w3 w3' → s ≡ wiped (n + 1) (scratch w1' w2' w3' x) → s ≡ wiped (n + 1) old
+  pub cleared-up : {w1' w2' w3' : List ℕ} {s : Scratch} → Kept 0 (n + 1) w1 w1' → Kept 0 (n + 1) w2 w2' → Kept 0 (n + 1) w3 w3' →
+      s ≡ wiped (n + 1) (scratch w1' w2' w3' x) → s ≡ wiped (n + 1) old
   unfolding wiped
   cleared-up a b c e =
       e
@@ -225,7 +248,8 @@ module _ {nrows n : ℕ} {p i w1 w2 w3 : List ℕ} {x : List Float} {old : Scrat
 
     module _ (out : Analysis) where
       abbrev room : Bool
-      room = ltb 4194304 t || ltb (length out.tree) n || ltb (length out.up) (n + 1) || ltb (length out.ui) t || ltb (length out.lp) (n + 1) || ltb (length out.li) t
+      room = ltb 4194304 t || ltb (length out.tree) n || ltb (length out.up) (n + 1) || ltb (length out.ui) t || ltb (length out.lp) (n + 1) ||
+          ltb (length out.li) t
 
       abbrev E : ℕ
       E = entries (upper D)
@@ -239,7 +263,8 @@ module _ {nrows n : ℕ} {p i w1 w2 w3 : List ℕ} {x : List Float} {old : Scrat
       lp_size : length (starts 0 (lower D)) ≡ n + 1
       lp_size = omega (arith, length-starts 0 (lower D), length-lower D (columns_fit square_valid), columns_long square_valid)
 
-      sizes : short (analysed D) out ≡ (ltb 4194304 E || ltb (length out.tree) n || ltb (length out.up) (n + 1) || ltb (length out.ui) E || ltb (length out.lp) (n + 1) || ltb (length out.li) E)
+      sizes : short (analysed D) out ≡ (ltb 4194304 E || ltb (length out.tree) n || ltb (length out.up) (n + 1) || ltb (length out.ui) E ||
+          ltb (length out.lp) (n + 1) || ltb (length out.li) E)
       unfolding short analysed
       sizes = rw (length-laid (upper D), tree-size square_valid, up-size, lp_size, li_size)
 
@@ -256,10 +281,12 @@ module _ {nrows n : ℕ} {p i w1 w2 w3 : List ℕ} {x : List Float} {old : Scrat
       answer : {b : Bool} → b ≡ room → number a (lent out old) ≡ cond b 7 0
       unfolding columns
       answer {b = b} e =
-          number_is a (lent out old) ∙ sym (then (judged6 a old) ((7, short (analysed (columns a)) out) ∷ []) (early_6 a old) P.none refl) ∙ ap (λ (c : Bool). cond c 7 0) (room-is ∙ sym e)
+          number_is a (lent out old) ∙ sym (then (judged6 a old) ((7, short (analysed (columns a)) out) ∷ []) (early_6 a old) P.none refl) ∙
+          ap (λ (c : Bool). cond c 7 0) (room-is ∙ sym e)
 
       pub at_7 : {b : Bool} {s : Scratch} → b ≡ room → b ≡ true → s ≡ wiped (n + 1) (scratch w1' w2' w3' x)
-          → (7 ≡ number a (lent out old)) × (lent out s ≡ leaves 7 (needed a) (written (analysed (columns a)) out) (lent out old)) × (◌≡◌ {A = ℕ} 7 0 → Analysed a out)
+          → (7 ≡ number a (lent out old)) × (lent out s ≡ leaves 7 (needed a) (written (analysed (columns a)) out) (lent out old)) ×
+          (◌≡◌ {A = ℕ} 7 0 → Analysed a out)
       at_7 e h f = (
         sym (answer e ∙ ap (λ (c : Bool). cond c 7 0) h),
         late 7 (needed a) _ (lent out old) (omega arith) (omega arith) (cleared-up kept1 kept2' kept3' f ∙ ap (λ (k : ℕ). wiped k old) (sym P.need)),
@@ -268,7 +295,8 @@ module _ {nrows n : ℕ} {p i w1 w2 w3 : List ℕ} {x : List Float} {old : Scrat
 
       pub ready : {b : Bool} → b ≡ room → b ≡ false → ValidPattern (pattern n n p i) × Ready D n t w1' w2' w3' out
       ready e h =
-          let q5 = or-false (ltb 4194304 t || ltb (length out.tree) n || ltb (length out.up) (n + 1) || ltb (length out.ui) t || ltb (length out.lp) (n + 1)) _ (sym e ∙ h) in
+          let q5 = or-false (ltb 4194304 t || ltb (length out.tree) n || ltb (length out.up) (n + 1) || ltb (length out.ui) t ||
+          ltb (length out.lp) (n + 1)) _ (sym e ∙ h) in
           let q4 = or-false (ltb 4194304 t || ltb (length out.tree) n || ltb (length out.up) (n + 1) || ltb (length out.ui) t) _ q5.0 in
           let q3 = or-false (ltb 4194304 t || ltb (length out.tree) n || ltb (length out.up) (n + 1)) _ q4.0 in
           let q2 = or-false (ltb 4194304 t || ltb (length out.tree) n) _ q3.0 in
@@ -301,9 +329,11 @@ module _ {nrows n : ℕ} {p i w1 w2 w3 : List ℕ} {x : List Float} {old : Scrat
 
       pub at-end : {b : Bool} {new : Analysis} {w2f w3f : List ℕ} {s : Scratch} → b ≡ room → b ≡ false
           → (new ≡ written (analysed D) out) × Kept 0 (n + 1) w2' w2f × Kept 0 (n + 1) w3' w3f → s ≡ wiped (n + 1) (scratch w1' w2f w3f x)
-          → (0 ≡ number a (lent out old)) × (lent new s ≡ leaves 0 (needed a) (written (analysed (columns a)) out) (lent out old)) × (◌≡◌ {A = ℕ} 0 0 → Analysed a new)
+          → (0 ≡ number a (lent out old)) × (lent new s ≡ leaves 0 (needed a) (written (analysed (columns a)) out) (lent out old)) ×
+          (◌≡◌ {A = ℕ} 0 0 → Analysed a new)
       at-end e h g f = (
         sym (answer e ∙ ap (λ (c : Bool). cond c 7 0) h),
-        done (needed a) _ (lent out old) (g.0 ∙ sym same-columns) (cleared-up kept1 (kept_then kept2' g.1) (kept_then kept3' g.2) f ∙ ap (λ (k : ℕ). wiped k old) (sym P.need)),
+        done (needed a) _ (lent out old) (g.0 ∙ sym same-columns) (cleared-up kept1 (kept_then kept2' g.1) (kept_then kept3' g.2) f ∙
+            ap (λ (k : ℕ). wiped k old) (sym P.need)),
         λ z. rw g.0 (analysed-as (analysed_holds square_valid out (omega (arith, (ready e h).1.size, (ready e h).1.few)))),
       )

@@ -1,5 +1,6 @@
 -- What `read_upper` tells, and what `judge_lower` and `decide` make of it: each step, and each way out. Assumes nothing.
-use Rattle.std.proofs.Common.{◌≡◌, ℕ, ◌+◌, ◌<◌, ◌≤◌, Bool, true, false, not, ◌&&◌, ltb, List, [], ◌∷◌, length, get_or, sym, ap, ◌∙◌, true≢false, arith, take_all, le-ltb, lt-ltb}
+use Rattle.std.proofs.Common.{◌≡◌, ℕ, ◌+◌, ◌<◌, ◌≤◌, Bool, true, false, not, ◌&&◌, ltb, List, [], ◌∷◌, length, get_or, sym, ap, ◌∙◌, true≢false}
+use Rattle.std.proofs.Common.{arith, take_all, le-ltb, lt-ltb}
 use mathlib.Core.List.{flatten}
 use Rattle.lists.specs.Calls.{lowest, cleared}
 use Rattle.lists.specs.Parts.{part, placed}
@@ -70,7 +71,8 @@ module _ {n : ℕ} {p i : List ℕ} (v : ValidPattern (pattern n n p i)) (tr up 
   abbrev Told : Type 0
   Told = Known C tr up ui
 
-  pub untold : {w1 w1a w2 w2a : List ℕ} → (Told → ⊥) → Kept 0 n w1 w1a → Kept 0 n w2 w2a → (false ≡ true → Told) × (Told → false ≡ true) × Kept 0 n w1 w1a × Kept 0 n w2 w2a
+  pub untold : {w1 w1a w2 w2a : List ℕ} → (Told → ⊥) → Kept 0 n w1 w1a → Kept 0 n w2 w2a → (false ≡ true → Told) × (Told → false ≡ true) ×
+      Kept 0 n w1 w1a × Kept 0 n w2 w2a
   untold d a b = (λ z. absurd (true≢false (sym z)), λ z. absurd (d z), a, b)
 
   pub up-short : length up ≤ n → Told → ⊥
@@ -94,7 +96,8 @@ module _ {n : ℕ} {p i : List ℕ} (v : ValidPattern (pattern n n p i)) (tr up 
       tree_untold h = untold (λ d. not-both _ d.tree_same (tree_is ∙ h)) kept_1 kept_2
 
       module _ {w2b : List ℕ} (g : w2b ≡ cleared 0 n (placed 0 n w2 a)) where
-        pub told : {q : Bool} (b : List ℕ) → r ≡ true → length b ≡ length (part 0 n w2b) → get_or up n 0 ≤ 4194304 → (q ≡ true → Holds C up ui) × (Holds C up ui → q ≡ true)
+        pub told : {q : Bool} (b : List ℕ) → r ≡ true → length b ≡ length (part 0 n w2b) → get_or up n 0 ≤ 4194304 → (q ≡ true → Holds C up ui) ×
+            (Holds C up ui → q ≡ true)
             → (q ≡ true → Told) × (Told → q ≡ true) × Kept 0 n w1 (placed 0 n w1 t) × Kept 0 n w2 (placed 0 n w2b b)
         told b h x few d =
             let m : n ≤ length w2b = rw (g, length-cleared 0 n (placed 0 n w2 a), kept_2.long) l2 in (
@@ -127,7 +130,8 @@ module _ {n t : ℕ} {up ui : List ℕ} (room : ℕ) (lp li : List ℕ) where
     lower-none z w = rw (le-ltb room t l, ← e w, z)
 
 -- ---- `decide`
-module _ {n : ℕ} {p i : List ℕ} (v : ValidPattern (pattern n n p i)) (w1 w2 w3 : List ℕ) (l1 : n + 1 ≤ length w1) (l2 : n + 1 ≤ length w2) (l3 : n + 1 ≤ length w3) where
+module _ {n : ℕ} {p i : List ℕ} (v : ValidPattern (pattern n n p i)) (w1 w2 w3 : List ℕ) (l1 : n + 1 ≤ length w1) (l2 : n + 1 ≤ length w2)
+    (l3 : n + 1 ≤ length w3) where
   abbrev D : List (List ℕ)
   D = columns (pattern n n p i)
 
@@ -166,10 +170,16 @@ module _ {n : ℕ} {p i : List ℕ} (v : ValidPattern (pattern n n p i)) (w1 w2 
     lower_asks = (whole, omega arith)
 
     pub decided : {w1a w2a w3b : List ℕ} {r : ℕ} → Kept 0 n w1 w1a → Kept 0 n w2 w2a
-        → ((w : Whole n t up ui) → r ≡ lowest ((7, ltb room t) ∷ (8, not (starts_with (starts 0 (transposed w.us)) lp && starts_with (flatten (transposed w.us)) li)) ∷ [])) × Kept 0 n w3 w3b
+        → ((w : Whole n t up ui) → r ≡ lowest ((7, ltb room t) ∷
+        (8, not (starts_with (starts 0 (transposed w.us)) lp && starts_with (flatten (transposed w.us)) li)) ∷ [])) × Kept 0 n w3 w3b
         → (r ≡ number room (analysis tr up ui lp li)) × Kept 0 (n + 1) w1 w1a × Kept 0 (n + 1) w2 w2a × Kept 0 (n + 1) w3 w3b
     unfolding whole lower
-    decided k1 k2 g = (rw (wide_is, same-is) (g.0 whole), kept-wider (n + 1) (omega arith) k1, kept-wider (n + 1) (omega arith) k2, kept-wider (n + 1) (omega arith) g.1)
+    decided k1 k2 g = (
+      rw (wide_is, same-is) (g.0 whole),
+      kept-wider (n + 1) (omega arith) k1,
+      kept-wider (n + 1) (omega arith) k2,
+      kept-wider (n + 1) (omega arith) g.1,
+    )
 
   -- they are not: U's entries are counted
   module _ {w1a w2a : List ℕ} (k1 : Kept 0 n w1 w1a) (k2 : Kept 0 n w2 w2a) where
@@ -186,7 +196,8 @@ module _ {n : ℕ} {p i : List ℕ} (v : ValidPattern (pattern n n p i)) (w1 w2 
       answers : {r : ℕ} → r ≡ number room held → Answers r
       answers e = (
         e,
-        kept-wider (n + 1) (omega arith) (kept_then k1 (rw B.tree_is (kept-onto n w1a (tree D) (omega (arith, tree-size v)) (omega (arith, tree-size v, k1.long))))),
+        kept-wider (n + 1) (omega arith) (kept_then k1
+            (rw B.tree_is (kept-onto n w1a (tree D) (omega (arith, tree-size v)) (omega (arith, tree-size v, k1.long))))),
         kept-wider (n + 1) (omega arith) (kept_then k2 B.kept2),
         kept-wider (n + 1) (omega arith) B.kept3,
       )
@@ -205,7 +216,11 @@ module _ {n : ℕ} {p i : List ℕ} (v : ValidPattern (pattern n n p i)) (w1 w2 
 
         pub counted-tight : room < t → Answers 7
         unfolding tight
-        counted-tight h = answers (rw (ui_size, le-ltb 4194304 (entries (upper D)) (omega (arith, t_is)), lt-ltb room (entries (upper D)) (omega (arith, t_is))))
+        counted-tight h = answers (rw (
+          ui_size,
+          le-ltb 4194304 (entries (upper D)) (omega (arith, t_is)),
+          lt-ltb room (entries (upper D)) (omega (arith, t_is)),
+        ))
 
         module _ (l : t ≤ room) {r : Bool} (z : r ≡ false) (d : Known D tr up ui → r ≡ true) where
           wide_enough : tight room (analysed D) ≡ false

@@ -43,10 +43,12 @@ module _ {n : ℕ} {p i : List ℕ} (v : ValidPattern (pattern n n p i)) where
   upper-size = upper_long (given v refl) ∙ sym (columns_long v)
 
   pub tree-part : (w1 : List ℕ) {t : List ℕ} → t ≡ tree C → part 0 n (placed 0 n w1 t) ≡ tree C
-  tree-part w1 e = ap (λ (y : List ℕ). part 0 n (placed 0 n w1 y)) e ∙ ap (part 0 n) (placed-front w1 (tree C) n tree-size) ∙ part-onto n w1 (tree C) tree-size
+  tree-part w1 e = ap (λ (y : List ℕ). part 0 n (placed 0 n w1 y)) e ∙ ap (part 0 n) (placed-front w1 (tree C) n tree-size) ∙
+      part-onto n w1 (tree C) tree-size
 
   -- ---- `outline`
-  module _ (w1 w2 w3 a : List ℕ) {t w2b : List ℕ} (l1 : n ≤ length w1) (l2 : n ≤ length w2) (l3 : n ≤ length w3) (e : t ≡ tree C) (f : length a ≡ length (part 0 n w2)) (g : w2b ≡ cleared 0 n (placed 0 n w2 a)) where
+  module _ (w1 w2 w3 a : List ℕ) {t w2b : List ℕ} (l1 : n ≤ length w1) (l2 : n ≤ length w2) (l3 : n ≤ length w3) (e : t ≡ tree C)
+      (f : length a ≡ length (part 0 n w2)) (g : w2b ≡ cleared 0 n (placed 0 n w2 a)) where
     a_long : length a ≡ n
     a_long = f ∙ part_long n w2 l2
 
@@ -56,7 +58,8 @@ module _ {n : ℕ} {p i : List ℕ} (v : ValidPattern (pattern n n p i)) where
     kept_b : Kept 0 n w2 w2b
     kept_b = kept_then kept_a (kept-cleared n g)
 
-    pub outline_asks : ValidPattern (pattern n n p i) × Given C (part 0 n (placed 0 n w1 t)) × (length (part 0 n w2b) ≡ n) × Zeros (part 0 n w2b) × (n ≤ length w3)
+    pub outline_asks : ValidPattern (pattern n n p i) × Given C (part 0 n (placed 0 n w1 t)) × (length (part 0 n w2b) ≡ n) × Zeros (part 0 n w2b) ×
+        (n ≤ length w3)
     outline_asks = (v, given v (tree-part w1 e), part_long n w2b (rw kept_b.long l2), zeros-front n (placed 0 n w2 a) (rw kept_a.long l2) g, l3)
 
     pub outlined : {r : ℕ} (b : List ℕ) {c : List ℕ} → length b ≡ length (part 0 n w2b)
@@ -88,9 +91,11 @@ module _ {n : ℕ} {p i : List ℕ} (v : ValidPattern (pattern n n p i)) where
         laid = λ q l. refl;
       }
 
-  pub counts_there : {t : ℕ} {w1 w1' w2 w2' w3 w3' : List ℕ} (d : List ℕ) → Outlined C n t w1 w1' w2 w2' w3 w3' → w3 ≡ cleared 0 (n + 1) d → n + 1 ≤ length d → t ≤ 4194304 → take (n + 1) w3' ≡ lengths (lower C) ++ (0 ∷ [])
+  pub counts_there : {t : ℕ} {w1 w1' w2 w2' w3 w3' : List ℕ} (d : List ℕ) → Outlined C n t w1 w1' w2 w2' w3 w3' → w3 ≡ cleared 0 (n + 1) d →
+      n + 1 ≤ length d → t ≤ 4194304 → take (n + 1) w3' ≡ lengths (lower C) ++ (0 ∷ [])
   unfolding lower whole
   counts_there d B e l h =
       let w = whole (omega (arith, B.count)) h in
-      ap (take (n + 1)) (B.counts_are h ∙ ap (counted (flatten (upper C))) e ∙ ap (λ (k : List ℕ). counted k (cleared 0 (n + 1) d)) (sym (rows_are w)))
+      ap (take (n + 1)) (B.counts_are h ∙ ap (counted (flatten (upper C))) e ∙
+      ap (λ (k : List ℕ). counted k (cleared 0 (n + 1) d)) (sym (rows_are w)))
       ∙ counted_are w (n + 1) d refl l

@@ -1,5 +1,6 @@
 -- What the steps of src/look.rt tell: a column, column by column, and the whole with each way out. Assumes nothing.
-use Rattle.std.proofs.Common.{◌≡◌, ℕ, suc, ◌+◌, ◌<◌, ◌≤◌, Bool, true, false, ◌&&◌, List, length, get_or, take, sym, ap, ◌∙◌, true≢false, arith, take_all}
+use Rattle.std.proofs.Common.{◌≡◌, ℕ, suc, ◌+◌, ◌<◌, ◌≤◌, Bool, true, false, ◌&&◌, List, length, get_or, take, sym, ap, ◌∙◌, true≢false, arith}
+use Rattle.std.proofs.Common.{take_all}
 use mathlib.Core.List.{flatten}
 use Rattle.lists.specs.Calls.{onto}
 use Rattle.lists.specs.Keys.{by_key}
@@ -26,7 +27,8 @@ use Rattle.lists.proofs.Bools.{alike}
 use Rattle.lists.proofs.Matching.{starts-at, starts_long, starts-not, starts_places, starts-take}
 
 -- ---- `look_column`
-module _ {k : ℕ} {rows next₀ li next : List ℕ} {q : ℕ} (v : Going k rows next₀ li next li q) (h : q < length rows) {j t : ℕ} (e : j ≡ get_or rows q 0) (f : t ≡ get_or next j 0) where
+module _ {k : ℕ} {rows next₀ li next : List ℕ} {q : ℕ} (v : Going k rows next₀ li next li q) (h : q < length rows) {j t : ℕ}
+    (e : j ≡ get_or rows q 0) (f : t ≡ get_or next j 0) where
   -- the place is past the end
   pub looked_past : length li ≤ t → (s : Spread k rows next₀ li) → Looked s false next li
   looked_past d s = absurd (omega (arith, going_place v h e s))
@@ -40,11 +42,13 @@ module _ {k : ℕ} {rows next₀ li next : List ℕ} {q : ℕ} (v : Going k rows
             (λ y. d (sym y ∙ ap (λ (a : ℕ). get_or (by_key s.n s.keys s.xs) a 0) f ∙ going_holds v h e s));
       }
 
-pub looked_agrees : {k : ℕ} {rows next₀ li next : List ℕ} → Going k rows next₀ li next li (length rows) → (s : Spread k rows next₀ li) → Looked s true next li
+pub looked_agrees : {k : ℕ} {rows next₀ li next : List ℕ} → Going k rows next₀ li next li (length rows) → (s : Spread k rows next₀ li) →
+    Looked s true next li
 looked_agrees w s = record { agrees = λ z. w s; differs = λ z. absurd (true≢false z) }
 
 -- ---- `look_columns`
-module _ {n : ℕ} {up ui next₀ li next next1 : List ℕ} {k b f : ℕ} (v : Columns n up ui next₀ li next li k) (h : k < n) (x : b ≡ get_or up k 0) (y : f ≡ get_or up (k + 1) 0)
+module _ {n : ℕ} {up ui next₀ li next next1 : List ℕ} {k b f : ℕ} (v : Columns n up ui next₀ li next li k) (h : k < n) (x : b ≡ get_or up k 0)
+    (y : f ≡ get_or up (k + 1) 0)
     {r : Bool} (w : (s : Spread k (part b f ui) next li) → Looked s r next1 li) where
   pub lower-turn : r ≡ true → Columns n up ui next₀ li next1 li (k + 1)
   lower-turn z = columns-turn v h x y (λ s. (w s).agrees z)
@@ -59,7 +63,8 @@ module _ {n t : ℕ} {up ui : List ℕ} (lp li : List ℕ) where
   abbrev pub Told : Whole n t up ui → Bool
   Told u = starts_with (starts 0 (transposed u.us)) lp && starts_with (flatten (transposed u.us)) li
 
-  pub unseen : {w w1 : List ℕ} → ((u : Whole n t up ui) → Told u ≡ true → ⊥) → Kept 0 n w w1 → ((u : Whole n t up ui) → false ≡ Told u) × Kept 0 n w w1
+  pub unseen : {w w1 : List ℕ} → ((u : Whole n t up ui) → Told u ≡ true → ⊥) → Kept 0 n w w1 → ((u : Whole n t up ui) → false ≡ Told u) ×
+      Kept 0 n w w1
   unseen d k = (λ u. alike false (Told u) (λ z. absurd (true≢false (sym z))) (λ z. absurd (d u z)), k)
 
   -- where L is held
@@ -83,7 +88,8 @@ module _ {n t : ℕ} {up ui : List ℕ} (lp li : List ℕ) where
     size = length-laid ls ∙ entries-lower u
 
     lp_at : (r : ℕ) → r ≤ n → get_or lp r 0 ≡ length (by_key r ks xs)
-    lp_at r m = sym (starts-at (starts 0 ls) lp lp_is r (omega (arith, length-starts 0 ls, lower_long u))) ∙ transposed-start u.us u.once r (omega (arith, u.count))
+    lp_at r m = sym (starts-at (starts 0 ls) lp lp_is r (omega (arith, length-starts 0 ls, lower_long u))) ∙
+        transposed-start u.us u.once r (omega (arith, u.count))
 
     pub lp_long : n < length lp
     lp_long = omega (arith, starts_long (starts 0 ls) lp lp_is, length-starts 0 ls, lower_long u)
@@ -122,7 +128,8 @@ module _ {n t : ℕ} {up ui : List ℕ} (lp li : List ℕ) where
       unfolding spreads
       no_stop d =
           let g = d spreads in
-          let e : starts_with (by_key n ks xs) (part 0 t li) ≡ true = rw (laid, part-front t li, starts-take (flatten ls) li t (omega (arith, size))) li_is in
+          let e : starts_with (by_key n ks xs) (part 0 t li) ≡ true =
+          rw (laid, part-front t li, starts-take (flatten ls) li t (omega (arith, size))) li_is in
           not-both (starts_with (by_key n ks xs) (part 0 t li)) e (sym g)
 
     -- each column's places are used up
@@ -149,7 +156,8 @@ module _ (n t : ℕ) (up ui lp li : List ℕ) where
     long_1 = omega (arith, kept_1.long)
 
     begun : (r : ℕ) → r < n → get_or (part 0 n w1) r 0 ≡ get_or lp r 0
-    begun r h = rw c (ap (λ (x : List ℕ). get_or x r 0) (part-onto n w (part 0 n lp) front_long) ∙ get_d_part 0 n lp r 0 (omega arith) ∙ (let z : 0 + r ≡ r = omega arith in ap (λ (x : ℕ). get_or lp x 0) z))
+    begun r h = rw c (ap (λ (x : List ℕ). get_or x r 0) (part-onto n w (part 0 n lp) front_long) ∙ get_d_part 0 n lp r 0 (omega arith) ∙
+        (let z : 0 + r ≡ r = omega arith in ap (λ (x : ℕ). get_or lp x 0) z))
 
     module _ (o : t ≤ length li) where
       pub look_asks : Whole n t up ui → Whole n (length (part 0 t li)) up ui × (length (part 0 n w1) ≡ n)
@@ -163,7 +171,8 @@ module _ (n t : ℕ) (up ui lp li : List ℕ) where
         kept_2 = kept_then kept_1 (kept-placed n w1 ys ys_long long_1)
 
         pub look_unseen : {r : Bool} → r ≡ false
-            → (r ≡ false → (s : Spreads n up ui (part 0 n w1) (part 0 t li)) → false ≡ starts_with (by_key n (flatten s.us) (numbers 0 s.us)) (part 0 t li))
+            → (r ≡ false → (s : Spreads n up ui (part 0 n w1) (part 0 t li)) → false ≡ starts_with (by_key n (flatten s.us) (numbers 0 s.us))
+            (part 0 t li))
             → ((u : Whole n t up ui) → false ≡ Told lp li u) × Kept 0 n w (placed 0 n w1 ys)
         look_unseen z d = unseen lp li (λ u h. no_stop lp li u h (part_long n w1 long_1) begun (d z)) kept_2
 
@@ -187,24 +196,29 @@ module _ (n t : ℕ) (up ui lp li : List ℕ) where
             used r m = sym (sym (behind r m) ∙ starts-at (part 1 (n + 1) lp) (placed 0 n w1 ys) h r (omega (arith, behind_long)) ∙ at r m)
 
             lp_same : starts_with (starts 0 (transposed u.us)) lp ≡ true
-            lp_same = starts_places (starts 0 (transposed u.us)) lp (omega (arith, length-starts 0 (transposed u.us), lower_long u)) (seen_starts u v z used)
+            lp_same = starts_places (starts 0 (transposed u.us)) lp (omega (arith, length-starts 0 (transposed u.us), lower_long u))
+                (seen_starts u v z used)
 
             li_same : starts_with (flatten (transposed u.us)) li ≡ true
             li_same =
                 let s : length (flatten (transposed u.us)) ≡ t = length-laid (transposed u.us) ∙ entries-lower u in
                 starts_places (flatten (transposed u.us)) li (omega (arith, s))
-                (λ k m. seen_places u v z used k m ∙ get_d_part 0 t li k 0 (omega (arith, s)) ∙ (let y : 0 + k ≡ k = omega arith in ap (λ (x : ℕ). get_or li x 0) y))
+                (λ k m. seen_places u v z used k m ∙ get_d_part 0 t li k 0 (omega (arith, s)) ∙
+                (let y : 0 + k ≡ k = omega arith in ap (λ (x : ℕ). get_or li x 0) y))
 
             both-same : Told lp li u ≡ true
             both-same = rw (lp_same, li_same)
 
         pub look_told : {r q : Bool} → get_or lp 0 0 ≡ 0
-            → (r ≡ true → (u : Whole n (length (part 0 t li)) up ui) (held : List ℕ) → Standing 0 n (flatten u.us) (numbers 0 u.us) held (part 0 t li) (part 0 n w1) 0
+            → (r ≡ true → (u : Whole n (length (part 0 t li)) up ui) (held : List ℕ) →
+            Standing 0 n (flatten u.us) (numbers 0 u.us) held (part 0 t li) (part 0 n w1) 0
             → Standing 0 n (flatten u.us) (numbers 0 u.us) held (part 0 t li) ys (entries u.us))
-            → r ≡ true → q ≡ starts_with (part 1 (n + 1) lp) (placed 0 n w1 ys) → ((u : Whole n t up ui) → q ≡ Told lp li u) × Kept 0 n w (placed 0 n w1 ys)
+            → r ≡ true → q ≡ starts_with (part 1 (n + 1) lp) (placed 0 n w1 ys) → ((u : Whole n t up ui) → q ≡ Told lp li u) ×
+            Kept 0 n w (placed 0 n w1 ys)
         look_told z g s f =
             let d = g s in
             let d1 = rw (part_long t li o) at d in (
-              λ u. f ∙ alike (starts_with (part 1 (n + 1) lp) (placed 0 n w1 ys)) (Told lp li u) (both-same u (d1 u lp (standing_start begun)) z) (no_differ u (d1 u lp (standing_start begun))),
+              λ u. f ∙ alike (starts_with (part 1 (n + 1) lp) (placed 0 n w1 ys)) (Told lp li u) (both-same u (d1 u lp (standing_start begun)) z)
+                  (no_differ u (d1 u lp (standing_start begun))),
               kept_2,
             )

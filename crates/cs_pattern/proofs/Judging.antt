@@ -11,15 +11,22 @@ use Rattle.cs_pattern.specs.Compare.{same, tight, number}
 use Rattle.cs_pattern.proofs.Analysing.{square_valid, cleared-up, long1, long2, long3}
 use Rattle.cs_matrix.proofs.Squaring.{judged6, early_6, Prepared, unprepared}
 
-number_is : (a : Pattern) (room : ℕ) (held : Analysis) (old : Scratch) → number a room held old ≡ lowest (judged6 a old ++ ((7, tight room (analysed (columns a))) ∷ (8, not (same (analysed (columns a)) held)) ∷ []))
+number_is : (a : Pattern) (room : ℕ) (held : Analysis) (old : Scratch) → number a room held old
+    ≡ lowest (judged6 a old ++ ((7, tight room (analysed (columns a))) ∷ (8, not (same (analysed (columns a)) held)) ∷ []))
 unfolding number
 number_is a room held old =
-    ap lowest (sym (append_assoc (judged_square a) ((6, narrow (needed a) old) ∷ []) ((7, tight room (analysed (columns a))) ∷ (8, not (same (analysed (columns a)) held)) ∷ [])))
+    ap lowest (sym (append_assoc (judged_square a) ((6, narrow (needed a) old) ∷ [])
+    ((7, tight room (analysed (columns a))) ∷ (8, not (same (analysed (columns a)) held)) ∷ [])))
 
-pub at-refused : (a : Pattern) (room : ℕ) (held : Analysis) (old s : Scratch) {r : ℕ} → (r ≡ lowest (judged6 a old)) × (s ≡ cond (eqb r 0) (wiped (needed a) old) old) → (r ≡ 0 → ⊥)
+pub at-refused : (a : Pattern) (room : ℕ) (held : Analysis) (old s : Scratch) {r : ℕ} → (r ≡ lowest (judged6 a old)) ×
+    (s ≡ cond (eqb r 0) (wiped (needed a) old) old) → (r ≡ 0 → ⊥)
     → (r ≡ number a room held old) × (s ≡ worked r (needed a) old)
 unfolding leaves
-at-refused a room held old s e h = (first (judged6 a old) _ e.0 h ∙ sym (number_is a room held old), unprepared a old s e h ∙ ap (λ (l : Lent Analysis). l.work) (early (judged6 a old) (early_6 a old) (needed a) held (lent held old) e.0 h))
+at-refused a room held old s e h = (
+  first (judged6 a old) _ e.0 h ∙ sym (number_is a room held old),
+  unprepared a old s e h ∙
+      ap (λ (l : Lent Analysis). l.work) (early (judged6 a old) (early_6 a old) (needed a) held (lent held old) e.0 h),
+)
 
 -- from 7 on, and at 0, the scratch is cleared
 late_work : (b c : Bool) (n : ℕ) (old : Scratch) {r : ℕ} → r ≡ lowest ((7, b) ∷ (8, c) ∷ []) → wiped n old ≡ worked r n old
@@ -38,8 +45,10 @@ module _ {nrows n : ℕ} {p i w1 w2 w3 : List ℕ} {x : List Float} {old : Scrat
       → (r ≡ number (pattern nrows n p i) room held old) × (s ≡ worked r (needed (pattern nrows n p i)) old)
   unfolding columns
   at-end room held g f = (
-    g.0 ∙ then (judged6 a old) ((7, tight room (analysed (columns a))) ∷ (8, not (same (analysed (columns a)) held)) ∷ []) (early_6 a old) P.none refl ∙ sym (number_is a room held old),
-    cleared-up P g.1 g.2 g.3 f ∙ ap (λ (k : ℕ). wiped k old) (sym P.need) ∙ late_work (tight room (analysed (columns a))) (not (same (analysed (columns a)) held)) (needed a) old g.0,
+    g.0 ∙ then (judged6 a old) ((7, tight room (analysed (columns a))) ∷ (8, not (same (analysed (columns a)) held)) ∷ []) (early_6 a old) P.none
+        refl ∙ sym (number_is a room held old),
+    cleared-up P g.1 g.2 g.3 f ∙ ap (λ (k : ℕ). wiped k old) (sym P.need) ∙
+        late_work (tight room (analysed (columns a))) (not (same (analysed (columns a)) held)) (needed a) old g.0,
   )
     where
       a : Pattern

@@ -35,7 +35,8 @@ unfolding entries
 entries_sorted [] = refl
 entries_sorted (c ∷ cs) = omega (arith, length-sorted c, entries_sorted cs)
 
-module _ (us : List (List ℕ)) (small : length us ≤ 65535) (few : entries us ≤ 4194304) (below : (k x : ℕ) → Memᴰ x (get_or us k []) → x < length us) (rise : (k : ℕ) → Rising 0 (get_or us k [])) where
+module _ (us : List (List ℕ)) (small : length us ≤ 65535) (few : entries us ≤ 4194304) (below : (k x : ℕ) → Memᴰ x (get_or us k []) → x < length us)
+    (rise : (k : ℕ) → Rising 0 (get_or us k [])) where
   pointers : Pointers (starts 0 us) (length (flatten us))
   unfolding entries
   pointers =
@@ -52,7 +53,8 @@ module _ (us : List (List ℕ)) (small : length us ≤ 65535) (few : entries us 
   again : columns (pattern (length us) (length us) (starts 0 us) (flatten us)) ≡ us
   again =
       ap (λ (p : List ℕ). columns (pattern (length us) (length us) p (flatten us))) (sym (onto-whole (starts 0 us) (starts 0 us) refl))
-      ∙ ap (λ (i : List ℕ). columns (pattern (length us) (length us) (onto (starts 0 us) (starts 0 us)) i)) (sym (onto-whole (flatten us) (flatten us) refl))
+      ∙ ap (λ (i : List ℕ). columns (pattern (length us) (length us) (onto (starts 0 us) (starts 0 us)) i))
+      (sym (onto-whole (flatten us) (flatten us) refl))
       ∙ held us (length us) (starts 0 us) (flatten us) refl
 
   pub columns_valid : ValidPattern (with_columns us)
@@ -69,40 +71,43 @@ module _ (us : List (List ℕ)) (small : length us ≤ 65535) (few : entries us 
       }
 
 -- ---- the whole analysis, written
-module _ {n : ℕ} {p i : List ℕ} (v : ValidPattern (pattern n n p i)) (old : Analysis) (few : entries (upper (columns (pattern n n p i))) ≤ 4194304) where
-  abbrev C : List (List ℕ)
-  C = columns (pattern n n p i)
+module _ {n : ℕ} {p i : List ℕ} (v : ValidPattern (pattern n n p i)) (old : Analysis) (few : entries (upper (columns (pattern n n p i))) ≤ 4194304)
+  where
+    abbrev C : List (List ℕ)
+    C = columns (pattern n n p i)
 
-  abbrev su : List (List ℕ)
-  su = map sorted (upper C)
+    abbrev su : List (List ℕ)
+    su = map sorted (upper C)
 
-  lower-size : length (lower C) ≡ n
-  lower-size = length-lower C (columns_fit v) ∙ sym (columns_long v)
+    lower-size : length (lower C) ≡ n
+    lower-size = length-lower C (columns_fit v) ∙ sym (columns_long v)
 
-  us_held : columns (pattern n n (onto old.up (starts 0 (upper C))) (onto old.ui (flatten (upper C)))) ≡ upper C
-  us_held = held (upper C) n old.up old.ui (upper-size v)
+    us_held : columns (pattern n n (onto old.up (starts 0 (upper C))) (onto old.ui (flatten (upper C)))) ≡ upper C
+    us_held = held (upper C) n old.up old.ui (upper-size v)
 
-  ls_held : columns (pattern n n (onto old.lp (starts 0 (lower C))) (onto old.li (flatten (lower C)))) ≡ lower C
-  ls_held = held (lower C) n old.lp old.li lower-size
+    ls_held : columns (pattern n n (onto old.lp (starts 0 (lower C))) (onto old.li (flatten (lower C)))) ≡ lower C
+    ls_held = held (lower C) n old.lp old.li lower-size
 
-  last-is : (us : List (List ℕ)) (d : List ℕ) → length us ≡ n → get_or (onto d (starts 0 us)) n 0 ≡ entries us
-  last-is us d e = get_or-onto-front d (starts 0 us) 0 n (omega (arith, length-starts 0 us)) ∙ start-at us n (omega arith) ∙ ap entries (take_all n us (omega arith))
+    last-is : (us : List (List ℕ)) (d : List ℕ) → length us ≡ n → get_or (onto d (starts 0 us)) n 0 ≡ entries us
+    last-is us d e = get_or-onto-front d (starts 0 us) 0 n (omega (arith, length-starts 0 us)) ∙ start-at us n (omega arith) ∙
+        ap entries (take_all n us (omega arith))
 
-  in_su : (k x : ℕ) → Memᴰ x (get_or su k []) → x < length su
-  in_su k x m =
-      let t = sorted-in x (get_or (upper C) k []) (rw (sorted-at (upper C) k) at m) in
-      omega (arith, fill_upper C (filled C (columns_fit v) t), length_sorts (upper C), upper-size v, columns_long v)
+    in_su : (k x : ℕ) → Memᴰ x (get_or su k []) → x < length su
+    in_su k x m =
+        let t = sorted-in x (get_or (upper C) k []) (rw (sorted-at (upper C) k) at m) in
+        omega (arith, fill_upper C (filled C (columns_fit v) t), length_sorts (upper C), upper-size v, columns_long v)
 
-  su_valid : ValidPattern (with_columns su)
-  su_valid =
-      columns_valid su (omega (arith, length_sorts (upper C), upper-size v, v.cols)) (omega (arith, entries_sorted (upper C))) in_su (promised C (columns_fit v)).sorts
+    su_valid : ValidPattern (with_columns su)
+    su_valid =
+        columns_valid su (omega (arith, length_sorts (upper C), upper-size v, v.cols)) (omega (arith, entries_sorted (upper C))) in_su
+        (promised C (columns_fit v)).sorts
 
-  pub analysed_holds : Analysed (pattern n n p i) (written (analysed C) old)
-  unfolding written analysed
-  analysed_holds =
-      record {
-        promised = rw (take-onto old.tree (tree C) n (tree-size v), us_held, ls_held) (promised C (columns_fit v));
-        u_size = rw us_held (last-is (upper C) old.up (upper-size v));
-        l_size = rw ls_held (last-is (lower C) old.lp lower-size);
-        valid = rw us_held su_valid;
-      }
+    pub analysed_holds : Analysed (pattern n n p i) (written (analysed C) old)
+    unfolding written analysed
+    analysed_holds =
+        record {
+          promised = rw (take-onto old.tree (tree C) n (tree-size v), us_held, ls_held) (promised C (columns_fit v));
+          u_size = rw us_held (last-is (upper C) old.up (upper-size v));
+          l_size = rw ls_held (last-is (lower C) old.lp lower-size);
+          valid = rw us_held su_valid;
+        }

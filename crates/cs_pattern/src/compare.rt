@@ -32,7 +32,10 @@ fn judge_lower(
 ) -> u32
     requires { Whole n t up.now ui.now × (n ≤ length w3.old) }
     ensures { ((w : Whole n t up.now ui.now)
-        → result ≡ lowest ((7, nat_lt room t) ∷ (8, not (starts_with (starts 0 (transposed w.us)) lp.now && starts_with (flatten (transposed w.us)) li.now)) ∷ []))
+        → result ≡ lowest ((7, nat_lt room t) ∷ (
+          8,
+          not (starts_with (starts 0 (transposed w.us)) lp.now && starts_with (flatten (transposed w.us)) li.now),
+        ) ∷ []))
         × Kept 0 n w3.old w3.new }
 {
     if room < t {

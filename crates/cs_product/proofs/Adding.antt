@@ -60,7 +60,8 @@ module _ (nrows ncols : ℕ) (p i : List ℕ) (v : List Float) (rows : List ℕ)
           rw (column-is handed i) (s.ask.valid.pattern.rise c col_below),
         )
 
-        pub up_turn : {x' : List Float} → x' ≡ over (plus_at (get_or vals k nan)) (part b e i) (part b e v) x → length x' ≡ length x → Adding-up x₀ x' (k + 1)
+        pub up_turn : {x' : List Float} → x' ≡ over (plus_at (get_or vals k nan)) (part b e i) (part b e v) x → length x' ≡ length x →
+            Adding-up x₀ x' (k + 1)
         unfolding add_column
         up_turn q m =
             record {

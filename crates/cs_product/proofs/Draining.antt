@@ -72,7 +72,8 @@ module _ (n : ℕ) (rows : List ℕ) where
     pub drained_done : length rows ≤ k → x ≡ replicate n none
     drained_done h =
         ext_get_or nan x (replicate n none) (omega (arith, s.long, s.ask.x_long, length-replicate n none))
-        (λ r g. let l : r < n = omega (arith, s.long, s.ask.x_long) in s.value r l ∙ (rw (take_all k rows h) (go r l (lists r rows) refl)) ∙ sym (get_or-replicate n r none nan l))
+        (λ r g. let l : r < n = omega (arith, s.long, s.ask.x_long) in s.value r l ∙ (rw (take_all k rows h) (go r l (lists r rows) refl)) ∙
+        sym (get_or-replicate n r none nan l))
       where
         go : (r : ℕ) → r < n → (b : Bool) → lists r rows ≡ b → cond b none (get_or x₀ r nan) ≡ none
         go r l true e = refl
@@ -100,7 +101,10 @@ module _ (n : ℕ) (rows : List ℕ) where
       pub counting_on : ne (get_or x r nan) none ≡ true → Counting x₀ (set x r none) (count + 1) (k + 1)
       counting_on t =
           let m = keep-next (remains x₀) rows k h true (test_is ∙ t) in
-          record { drained = drained_turn n rows s.drained h e; is = omega (arith, s.is, ap length m, length-append (keep (remains x₀) (take k rows)) (get_or rows k 0 ∷ [])) }
+          record {
+            drained = drained_turn n rows s.drained h e;
+            is = omega (arith, s.is, ap length m, length-append (keep (remains x₀) (take k rows)) (get_or rows k 0 ∷ []));
+          }
 
       pub counting_off : ne (get_or x r nan) none ≡ false → Counting x₀ (set x r none) count (k + 1)
       counting_off t =
@@ -128,9 +132,16 @@ module _ (n start : ℕ) (rows : List ℕ) where
   pub gathering_start : {x : List Float} {oi : List ℕ} {ov : List Float} → Taking n start rows x oi ov → Gathering x oi ov x oi ov start 0
   unfolding keep
   gathering_start {oi = oi} {ov = ov} a =
-      record { ask = a; drained = drained_start n rows a.drain; at_is = omega arith; i_is = laid_none start oi (omega (arith, a.in_i)); v_is = laid_none start ov (omega (arith, a.in_v)) }
+      record {
+        ask = a;
+        drained = drained_start n rows a.drain;
+        at_is = omega arith;
+        i_is = laid_none start oi (omega (arith, a.in_i));
+        v_is = laid_none start ov (omega (arith, a.in_v));
+      }
 
-  module _ {x₀ : List Float} {oi₀ : List ℕ} {ov₀ : List Float} {x : List Float} {oi : List ℕ} {ov : List Float} {at k : ℕ} (s : Gathering x₀ oi₀ ov₀ x oi ov at k) where
+  module _ {x₀ : List Float} {oi₀ : List ℕ} {ov₀ : List Float} {x : List Float} {oi : List ℕ} {ov : List Float} {at k : ℕ}
+      (s : Gathering x₀ oi₀ ov₀ x oi ov at k) where
     room : length (kept x₀ k) ≤ length (keep (remains x₀) rows)
     room = keep-front (remains x₀) rows k
 
@@ -173,7 +184,8 @@ module _ (n start : ℕ) (rows : List ℕ) where
               i_is = rw (z, s.i_is, more) (laid_more start oi₀ (kept x₀ k) r at s.at_is (omega (arith, fits, s.ask.in_i)));
               v_is =
                   rw (s.v_is, more, unspoilt n rows s.drained h e, map_more (λ (j : ℕ). get_or x₀ j nan) (kept x₀ k) r)
-                  (laid_more start ov₀ (values_of x₀ (kept x₀ k)) (get_or x₀ r nan) at (omega (arith, s.at_is, vals_long)) (omega (arith, fits, s.ask.in_v)));
+                  (laid_more start ov₀ (values_of x₀ (kept x₀ k)) (get_or x₀ r nan) at (omega (arith, s.at_is, vals_long))
+                  (omega (arith, fits, s.ask.in_v)));
             }
 
       pub gathering_off : ne (get_or x r nan) none ≡ false → Gathering x₀ oi₀ ov₀ (set x r none) oi ov at (k + 1)
@@ -182,7 +194,8 @@ module _ (n start : ℕ) (rows : List ℕ) where
           record { ask = s.ask; drained = drained_turn n rows s.drained h e; at_is = rw m s.at_is; i_is = rw m s.i_is; v_is = rw m s.v_is }
 
     pub gathering_done : length rows ≤ k
-        → (at ≡ start + length (keep (remains x₀) rows)) × (oi ≡ laid start oi₀ (keep (remains x₀) rows)) × (ov ≡ laid start ov₀ (values_of x₀ (keep (remains x₀) rows))) × (x ≡ replicate n none)
+        → (at ≡ start + length (keep (remains x₀) rows)) × (oi ≡ laid start oi₀ (keep (remains x₀) rows)) ×
+        (ov ≡ laid start ov₀ (values_of x₀ (keep (remains x₀) rows))) × (x ≡ replicate n none)
     gathering_done h =
         let e : take k rows ≡ rows = take_all k rows h in
         let a = s.at_is in

@@ -78,8 +78,13 @@ module _ {n stamp : ℕ} {mark met : List ℕ} {x : List Float} {count : ℕ} (m
 
     pub more_room : count < n
     more_room =
-        omega
-        (arith, rows_long, length-append rows (r ∷ []), card_once n more-once (below_snoc rows r n rows_below h), chosen-within (λ q. lists q (rows ++ (r ∷ []))) n)
+        omega (
+          arith,
+          rows_long,
+          length-append rows (r ∷ []),
+          card_once n more-once (below_snoc rows r n rows_below h),
+          chosen-within (λ q. lists q (rows ++ (r ∷ []))) n,
+        )
 
     pub count-in_met : count < length met
     count-in_met = omega (arith, more_room, m.met_long)
@@ -99,11 +104,17 @@ module _ {n stamp : ℕ} {mark met : List ℕ} {x : List Float} {count : ℕ} (m
           x_long = length-set x r y ∙ m.x_long;
           within = omega (arith, more_room);
           once = rw taken more-once;
-          below = λ k g. ⊎_elim (λ (z : k ≡ count). rw (z, get_or-set_same met count r 0 count-in_met) h) (λ (z : k < count). rw (get_or-set_other met count k r 0 (λ w. omega arith)) (m.below k z)) (eq-or-lt_of_le (omega arith));
-          marked = λ q g f. was q ∙ ⊎_elim (λ (z : q ≡ r). rw (eq-eqb q r z) (or-true (lists q rows))) (λ z. rw (ne_eqb q r z) (or-none (lists q rows) ∙ m.marked q g (sym (get_or-set_other mark r q stamp 0 z) ∙ f))) (eq-or-ne q r);
-          listed = λ q g f. ⊎_elim (λ (z : q ≡ r). rw (z, get_or-set_same mark r stamp 0 r_in_mark)) (λ z. get_or-set_other mark r q stamp 0 z ∙ m.listed q g (sym (still q z) ∙ f)) (eq-or-ne q r);
-          most = λ q g. ⊎_elim (λ (z : q ≡ r). rw (z, get_or-set_same mark r stamp 0 r_in_mark) (omega arith)) (λ z. rw (get_or-set_other mark r q stamp 0 z) (m.most q g)) (eq-or-ne q r);
-          zero = λ q g f. let t = or-false (lists q rows) (eqb q r) (sym (was q) ∙ f) in ⊎_elim (λ (z : q ≡ r). absurd (not-both (eqb q r) (eq-eqb q r z) t.1)) (λ z. get_or-set_other x r q y nan z ∙ m.zero q g t.0) (eq-or-ne q r);
+          below = λ k g. ⊎_elim (λ (z : k ≡ count). rw (z, get_or-set_same met count r 0 count-in_met) h)
+              (λ (z : k < count). rw (get_or-set_other met count k r 0 (λ w. omega arith)) (m.below k z)) (eq-or-lt_of_le (omega arith));
+          marked = λ q g f. was q ∙ ⊎_elim (λ (z : q ≡ r). rw (eq-eqb q r z) (or-true (lists q rows)))
+              (λ z. rw (ne_eqb q r z) (or-none (lists q rows) ∙ m.marked q g (sym (get_or-set_other mark r q stamp 0 z) ∙ f))) (eq-or-ne q r);
+          listed = λ q g f. ⊎_elim (λ (z : q ≡ r). rw (z, get_or-set_same mark r stamp 0 r_in_mark)) (λ z. get_or-set_other mark r q stamp 0 z ∙
+              m.listed q g (sym (still q z) ∙ f)) (eq-or-ne q r);
+          most = λ q g. ⊎_elim (λ (z : q ≡ r). rw (z, get_or-set_same mark r stamp 0 r_in_mark) (omega arith))
+              (λ z. rw (get_or-set_other mark r q stamp 0 z) (m.most q g)) (eq-or-ne q r);
+          zero = λ q g f. let t = or-false (lists q rows) (eqb q r) (sym (was q) ∙ f) in
+              ⊎_elim (λ (z : q ≡ r). absurd (not-both (eqb q r) (eq-eqb q r z) t.1)) (λ z. get_or-set_other x r q y nan z ∙ m.zero q g t.0)
+              (eq-or-ne q r);
         }
       where
         or-true : (b : Bool) → (b || true) ≡ true
@@ -138,14 +149,18 @@ module _ (n stamp : ℕ) (beta : Float) (rows : List ℕ) (vals : List Float) wh
       pub in_vals : k < length vals
       in_vals = omega (arith, s.alike)
 
-      turn : {y : Float} → y ≡ add binary64 (get_or x r nan) (mul binary64 (get_or vals k nan) beta) → Over (plus_at beta) rows vals x₀ (set x r y) (k + 1)
+      turn : {y : Float} → y ≡ add binary64 (get_or x r nan) (mul binary64 (get_or vals k nan) beta) →
+          Over (plus_at beta) rows vals x₀ (set x r y) (k + 1)
       unfolding plus_at
       turn f = over-turn (plus_at beta) rows vals 0 nan s.alike s.is h (rw (f, e))
 
-      pub adding_again : get_or mark r 0 ≡ stamp → {y : Float} → y ≡ add binary64 (get_or x r nan) (mul binary64 (get_or vals k nan) beta) → AddingUp x₀ mark met (set x r y) many (k + 1)
+      pub adding_again : get_or mark r 0 ≡ stamp → {y : Float} → y ≡ add binary64 (get_or x r nan) (mul binary64 (get_or vals k nan) beta) →
+          AddingUp x₀ mark met (set x r y) many (k + 1)
       adding_again f {y} g = record { alike = s.alike; below = s.below; met_now = met_again s.met_now row_below f y; is = turn g }
 
-      pub adding_new : (get_or mark r 0 ≡ stamp → ⊥) → {y : Float} {q : ℕ} → q ≡ r → y ≡ add binary64 (get_or x r nan) (mul binary64 (get_or vals k nan) beta) → AddingUp x₀ (set mark r stamp) (set met many q) (set x r y) (many + 1) (k + 1)
+      pub adding_new : (get_or mark r 0 ≡ stamp → ⊥) → {y : Float} {q : ℕ} → q ≡ r →
+          y ≡ add binary64 (get_or x r nan) (mul binary64 (get_or vals k nan) beta) → AddingUp x₀ (set mark r stamp) (set met many q) (set x r y)
+          (many + 1) (k + 1)
       adding_new f {y} {q} z g = record { alike = s.alike; below = s.below; met_now = rw z (met_new s.met_now row_below f y); is = turn g }
 
 -- ---- the loop of `accumulate`
@@ -177,7 +192,13 @@ module _ (nrows ncols : ℕ) (p i : List ℕ) (v : List Float) (stamp : ℕ) (ro
     pub is : Over (add_column (matrix nrows ncols p i v)) rows vals x₀ x k
 
   pub accumulating_start : {mark met : List ℕ} {x : List Float} → Starting a stamp rows vals mark met x → Accumulating x mark met x 0 0
-  accumulating_start {x = x} s = record { valid = s.valid; alike = s.alike; below = s.below; met_now = none_met s.fresh; is = over-start (add_column a) rows vals x }
+  accumulating_start {x = x} s = record {
+    valid = s.valid;
+    alike = s.alike;
+    below = s.below;
+    met_now = none_met s.fresh;
+    is = over-start (add_column a) rows vals x;
+  }
 
   module _ {x₀ : List Float} {mark met : List ℕ} {x : List Float} {many k : ℕ} (s : Accumulating x₀ mark met x many k) where
     pub accumulating_done : length rows ≤ k → (x ≡ over (add_column a) rows vals x₀) × Met nrows stamp mark met x many
@@ -201,9 +222,15 @@ module _ (nrows ncols : ℕ) (p i : List ℕ) (v : List Float) (stamp : ℕ) (ro
         in_v = omega (arith, handed.inside, s.valid.v_long)
 
         pub accumulating_asks : Adding nrows stamp (part b e i) (part b e v) mark met x many
-        accumulating_asks = record { alike = omega (arith, length_part b e v in_v, length_part b e i handed.inside); below = part-below b e nrows i handed.inside s.valid.pattern.below; met_so_far = s.met_now }
+        accumulating_asks = record {
+          alike = omega (arith, length_part b e v in_v, length_part b e i handed.inside);
+          below = part-below b e nrows i handed.inside s.valid.pattern.below;
+          met_so_far = s.met_now;
+        }
 
-        pub accumulating_turn : {mark' met' : List ℕ} {x' : List Float} {next : ℕ} → x' ≡ over (plus_at (get_or vals k nan)) (part b e i) (part b e v) x → Met nrows stamp mark' met' x' next → Accumulating x₀ mark' met' x' next (k + 1)
+        pub accumulating_turn : {mark' met' : List ℕ} {x' : List Float} {next : ℕ} →
+            x' ≡ over (plus_at (get_or vals k nan)) (part b e i) (part b e v) x → Met nrows stamp mark' met' x' next →
+            Accumulating x₀ mark' met' x' next (k + 1)
         unfolding add_column
         accumulating_turn q m =
             record {

@@ -21,7 +21,8 @@ use Rattle.lists.proofs.Tables.{length-table}
 use Rattle.cs_matrix.specs.Matrix.{pattern, Matrix, matrix, Stored, stored, short, written, Valid}
 use Rattle.cs_matrix.proofs.Pointers.{Between, between, column-is, get_or-column}
 use Rattle.cs_columns.specs.Columns.{joined, with_columns, with_entries, laid, judged_two, short_for}
-use Rattle.cs_columns.proofs.Filling.{Filling, filling_start, filling_turn, filling_end, filling_at, filling_i, filling_v, room_i, room_v, room_p, room-all}
+use Rattle.cs_columns.proofs.Filling.{Filling, filling_start, filling_turn, filling_end, filling_at, filling_i, filling_v, room_i, room_v, room_p}
+use Rattle.cs_columns.proofs.Filling.{room-all}
 use Rattle.cs_columns.proofs.Joining.{joined-none, length_more, joined_alike, entries-within, entries_valid}
 use Rattle.cs_columns.proofs.Judging.{early_two, Passed, passed, Roomy, roomy, short_fewer, short_for_lem}
 use Rattle.cs_product.specs.Product.{accumulated, remains, row_of, value_of, product, needed_two, number}
@@ -60,8 +61,15 @@ module _ (nrows ncols : ℕ) (ap ai : List ℕ) (av : List Float) (bncols : ℕ)
         rw (column-is handed bi, get_or-column bp j bi q 0 (omega (arith, n, f, g)))
         (second.pattern.below (get_or bp j 0 + q) (omega (arith, n, f, g, handed.inside)))
 
-    starting : {stamp : ℕ} {mark met : List ℕ} {x : List Float} → Valid a → Fresh nrows stamp mark met x → Starting a stamp (part s e bi) (part s e bv) mark met x
-    starting v r = record { valid = v; alike = omega (arith, length_part s e bv in_bv, length_part s e bi handed.inside); few = omega (arith, length_part s e bi handed.inside, handed.inside, second.pattern.entries); below = column-below; fresh = r }
+    starting : {stamp : ℕ} {mark met : List ℕ} {x : List Float} → Valid a → Fresh nrows stamp mark met x →
+        Starting a stamp (part s e bi) (part s e bv) mark met x
+    starting v r = record {
+      valid = v;
+      alike = omega (arith, length_part s e bv in_bv, length_part s e bi handed.inside);
+      few = omega (arith, length_part s e bi handed.inside, handed.inside, second.pattern.entries);
+      below = column-below;
+      fresh = r;
+    }
 
     column-same : column_of a (part s e bi) (part s e bv) ≡ accumulated a b j
     unfolding column_of accumulated
@@ -71,7 +79,8 @@ module _ (nrows ncols : ℕ) (ap ai : List ℕ) (av : List Float) (bncols : ℕ)
     unfolding row_of
     rows_are = cong (λ (w : List Float). chosen nrows (remains w)) column-same
 
-    vals_are : map (λ (r : ℕ). get_or (column_of a (part s e bi) (part s e bv)) r nan) (chosen nrows (remains (column_of a (part s e bi) (part s e bv)))) ≡ vals j
+    vals_are : map (λ (r : ℕ). get_or (column_of a (part s e bi) (part s e bv)) r nan)
+        (chosen nrows (remains (column_of a (part s e bi) (part s e bv)))) ≡ vals j
     unfolding row_of value_of
     vals_are = cong (λ (w : List Float). map (λ (r : ℕ). get_or w r nan) (chosen nrows (remains w))) column-same
 
@@ -100,9 +109,15 @@ module _ (nrows ncols : ℕ) (ap ai : List ℕ) (av : List Float) (bncols : ℕ)
         next = omega (arith, t.is, k, cong length (rows_are t.begun.second h f g), length_more rows j)
 
         pub tallying_small : entries + r ≤ 4294901760
-        tallying_small = omega (arith, next, entries-within nrows bncols (row_of a b) (value_of a b) (j + 1) t.begun.first.pattern.rows, t.begun.second.pattern.cols)
+        tallying_small = omega (
+          arith,
+          next,
+          entries-within nrows bncols (row_of a b) (value_of a b) (j + 1) t.begun.first.pattern.rows,
+          t.begun.second.pattern.cols,
+        )
 
-        pub tallying_turn : {mark' met' : List ℕ} {x' : List Float} → Fresh nrows (j + 1 + 1) mark' met' x' → Tallying mark' met' x' (entries + r) (j + 1)
+        pub tallying_turn : {mark' met' : List ℕ} {x' : List Float} → Fresh nrows (j + 1 + 1) mark' met' x' →
+            Tallying mark' met' x' (entries + r) (j + 1)
         tallying_turn u = record { begun = record { first = t.begun.first; second = t.begun.second; fresh = u }; within = omega arith; is = next }
 
     pub tallying_done : bncols ≤ j → (entries ≡ size a b) × Fresh nrows (bncols + 1) mark met x
@@ -143,7 +158,11 @@ module _ (nrows ncols : ℕ) (ap ai : List ℕ) (av : List Float) (bncols : ℕ)
 
         pub bounding_turn : Bounding (most + r) (j + 1)
         bounding_turn =
-            let w = column_few a q (part s e bv) (omega (arith, length_part s e bv (in_bv t.ask.second h f g), length_part s e bi bounding_handed.inside)) in
+            let w = column_few a q (part s e bv) (omega (
+              arith,
+              length_part s e bv (in_bv t.ask.second h f g),
+              length_part s e bi bounding_handed.inside,
+            )) in
             record {
               ask = t.ask;
               within = omega arith;
@@ -160,32 +179,48 @@ module _ (nrows ncols : ℕ) (ap ai : List ℕ) (av : List Float) (bncols : ℕ)
     operands = record { first = v.first; second = v.second }
 
     later : Fresh nrows (bncols + 1) mark met x
-    later = record { small = v.fresh.small; mark_long = v.fresh.mark_long; met_long = v.fresh.met_long; unmarked = λ r h. omega (arith, v.fresh.unmarked r h); zeros = v.fresh.zeros }
+    later = record {
+      small = v.fresh.small;
+      mark_long = v.fresh.mark_long;
+      met_long = v.fresh.met_long;
+      unmarked = λ r h. omega (arith, v.fresh.unmarked r h);
+      zeros = v.fresh.zeros;
+    }
 
-    pub bound_fits : (p i w : ℕ) {t : Bool} {most : ℕ} → size a b ≤ most → t ≡ short_for bncols most p i w → not t ≡ true → (false ≡ short_for bncols (size a b) p i w) × Fresh nrows (bncols + 1) mark met x
+    pub bound_fits : (p i w : ℕ) {t : Bool} {most : ℕ} → size a b ≤ most → t ≡ short_for bncols most p i w → not t ≡ true →
+        (false ≡ short_for bncols (size a b) p i w) × Fresh nrows (bncols + 1) mark met x
     bound_fits p i w {most = most} l e h = (sym (short_fewer bncols most (size a b) p i w (failed e h) l), later)
 
-  pub room-counted : (p i w : ℕ) {t : Bool} {entries : ℕ} → entries ≡ size a b → t ≡ short_for bncols entries p i w → t ≡ short_for bncols (size a b) p i w
+  pub room-counted : (p i w : ℕ) {t : Bool} {entries : ℕ} → entries ≡ size a b → t ≡ short_for bncols entries p i w →
+      t ≡ short_for bncols (size a b) p i w
   room-counted p i w f e = rw f at e
 
   -- ---- `fill`
-  pub record Writing (op₀ oi₀ : List ℕ) (ov₀ : List Float) (mark met spare : List ℕ) (x : List Float) (op oi : List ℕ) (ov : List Float) (at j : ℕ) : Type 0 where
+  pub record Writing (op₀ oi₀ : List ℕ) (ov₀ : List Float) (mark met spare : List ℕ) (x : List Float) (op oi : List ℕ) (ov : List Float)
+      (at j : ℕ) : Type 0 where
     pub begun : Begun a b (j + 1) mark met x
     pub spare_long : length spare ≡ nrows
     pub few : length (joined rows bncols) ≤ 4194304
     pub filling : Filling nrows bncols rows vals op₀ oi₀ ov₀ op oi ov at j
 
-  pub writing_start : {mark met spare : List ℕ} {x : List Float} {op oi : List ℕ} {ov : List Float} → Ready a b mark met spare x (stored op oi ov) → Writing op oi ov mark met spare x op oi ov 0 0
+  pub writing_start : {mark met spare : List ℕ} {x : List Float} {op oi : List ℕ} {ov : List Float} → Ready a b mark met spare x (stored op oi ov) →
+      Writing op oi ov mark met spare x op oi ov 0 0
   unfolding size
   writing_start q =
       record {
         begun = q.begun;
         spare_long = q.spare_long;
         few = q.few;
-        filling = filling_start nrows bncols rows vals (record { alike = λ j h. sym (length-map (rows j) (value_of a b j)); in_p = q.in_p; in_i = q.in_i; in_v = q.in_v });
+        filling = filling_start nrows bncols rows vals (record {
+          alike = λ j h. sym (length-map (rows j) (value_of a b j));
+          in_p = q.in_p;
+          in_i = q.in_i;
+          in_v = q.in_v;
+        });
       }
 
-  module _ {op₀ oi₀ : List ℕ} {ov₀ : List Float} {mark met spare : List ℕ} {x : List Float} {op oi : List ℕ} {ov : List Float} {at j : ℕ} (w : Writing op₀ oi₀ ov₀ mark met spare x op oi ov at j) where
+  module _ {op₀ oi₀ : List ℕ} {ov₀ : List Float} {mark met spare : List ℕ} {x : List Float} {op oi : List ℕ} {ov : List Float} {at j : ℕ}
+      (w : Writing op₀ oi₀ ov₀ mark met spare x op oi ov at j) where
     pub writing_small : at ≤ 4194304
     writing_small = omega (arith, filling_at nrows bncols rows vals w.filling, w.few)
 
@@ -222,7 +257,8 @@ module _ (nrows ncols : ℕ) (ap ai : List ℕ) (av : List Float) (bncols : ℕ)
       pub writing_turn : {r : ℕ} {mark' met' spare' : List ℕ} {x' : List Float} {oi' : List ℕ} {ov' : List Float} → length spare' ≡ length spare
           → r ≡ at + length (chosen nrows (remains (column_of a (part s e bi) (part s e bv))))
           → oi' ≡ laid at oi (chosen nrows (remains (column_of a (part s e bi) (part s e bv))))
-          → ov' ≡ laid at ov (map (λ (q : ℕ). get_or (column_of a (part s e bi) (part s e bv)) q nan) (chosen nrows (remains (column_of a (part s e bi) (part s e bv)))))
+          → ov' ≡ laid at ov (map (λ (q : ℕ). get_or (column_of a (part s e bi) (part s e bv)) q nan)
+          (chosen nrows (remains (column_of a (part s e bi) (part s e bv)))))
           → Fresh nrows (j + 1 + 1) mark' met' x' → Writing op₀ oi₀ ov₀ mark' met' spare' x' (set op j at) oi' ov' r (j + 1)
       writing_turn z k l m u =
           let r = rows_are w.begun.second h f g in
@@ -259,7 +295,8 @@ module _ (nrows ncols : ℕ) (ap ai : List ℕ) (av : List Float) (bncols : ℕ)
   product_valid h k m = entries_valid nrows bncols (row_of a b) (value_of a b) h k m
 
   -- ---- the ways out of `serve`
-  fresh_of : {mark met : List ℕ} {x : List Float} → nrows ≤ 65535 → length mark ≡ nrows → length met ≡ nrows → ((r : ℕ) → r < nrows → get_or mark r 0 ≡ 0) → x ≡ replicate nrows none → Fresh nrows 1 mark met x
+  fresh_of : {mark met : List ℕ} {x : List Float} → nrows ≤ 65535 → length mark ≡ nrows → length met ≡ nrows →
+      ((r : ℕ) → r < nrows → get_or mark r 0 ≡ 0) → x ≡ replicate nrows none → Fresh nrows 1 mark met x
   fresh_of s l m z x = record { small = s; mark_long = l; met_long = m; unmarked = λ r h. omega (arith, z r h); zeros = x }
 
   module _ {mark met spare : List ℕ} {x : List Float} (c : Clean a b mark met spare x) where
@@ -268,12 +305,14 @@ module _ (nrows ncols : ℕ) (ap ai : List ℕ) (av : List Float) (bncols : ℕ)
         record {
           first = c.first;
           second = c.second;
-          fresh = fresh_of c.first.pattern.rows (rw c.mark_is (length-replicate nrows 0)) c.met_long (λ r h. rw c.mark_is (get_or-replicate nrows r 0 0 h)) c.zeros;
+          fresh = fresh_of c.first.pattern.rows (rw c.mark_is (length-replicate nrows 0)) c.met_long
+              (λ r h. rw c.mark_is (get_or-replicate nrows r 0 0 h)) c.zeros;
         }
 
     module _ (old : Stored) {t : Bool} (g : t ≡ short_for bncols (size a b) (length old.p) (length old.i) (length old.v)) where
       abbrev pub Served : ℕ → Stored → Type 0
-      Served r new = (r ≡ lowest ((7, short (product a b) old) ∷ [])) × (new ≡ outputs r (written (product a b) old) old) × (r ≡ 0 → Valid (product a b))
+      Served r new = (r ≡ lowest ((7, short (product a b) old) ∷ [])) × (new ≡ outputs r (written (product a b) old) old) ×
+          (r ≡ 0 → Valid (product a b))
 
       short-is : short (product a b) old ≡ t
       short-is = short_for_lem (product a b) old bncols (size a b) p_long i_long v_long ∙ sym g
@@ -285,13 +324,15 @@ module _ (nrows ncols : ℕ) (ap ai : List ℕ) (av : List Float) (bncols : ℕ)
         room-is : Roomy bncols (size a b) (length old.p) (length old.i) (length old.v)
         room-is = roomy bncols (size a b) (length old.p) (length old.i) (length old.v) (sym g ∙ h)
 
-        pub ready : {stamp : ℕ} {mark₁ mark₂ met₁ spare₁ : List ℕ} {x₁ : List Float} → Fresh nrows stamp mark₁ met₁ x₁ → mark₂ ≡ cleared 0 nrows mark₁ → length spare₁ ≡ length spare → Ready a b mark₂ met₁ spare₁ x₁ old
+        pub ready : {stamp : ℕ} {mark₁ mark₂ met₁ spare₁ : List ℕ} {x₁ : List Float} → Fresh nrows stamp mark₁ met₁ x₁ →
+            mark₂ ≡ cleared 0 nrows mark₁ → length spare₁ ≡ length spare → Ready a b mark₂ met₁ spare₁ x₁ old
         ready {mark₁ = mark₁} f k l =
             record {
               begun = record {
                 first = c.first;
                 second = c.second;
-                fresh = fresh_of c.first.pattern.rows (rw k (length-cleared 0 nrows mark₁ ∙ f.mark_long)) f.met_long (λ r q. rw k (cleared-front 0 nrows mark₁ r q)) f.zeros;
+                fresh = fresh_of c.first.pattern.rows (rw k (length-cleared 0 nrows mark₁ ∙ f.mark_long)) f.met_long
+                    (λ r q. rw k (cleared-front 0 nrows mark₁ r q)) f.zeros;
               };
               spare_long = l ∙ c.spare_long;
               few = room-is.few;
@@ -304,48 +345,50 @@ module _ (nrows ncols : ℕ) (ap ai : List ℕ) (av : List Float) (bncols : ℕ)
         at-end f = (rw (short-is, h), left-written _ old f, λ q. product_valid c.first.pattern.rows c.second.pattern.cols room-is.few)
 
 -- ---- the scratch that a part was lent of
-module _ (n need : ℕ) (g : n ≤ need) (work : Scratch) {t : Bool} (f : t ≡ narrow need work) (h : t ≡ false) {s : Scratch} (q : s ≡ wiped need work) where
-  w1_is : s.w1 ≡ cleared 0 need work.w1
-  unfolding wiped
-  w1_is = cong (λ (z : Scratch). z.w1) q
+module _ (n need : ℕ) (g : n ≤ need) (work : Scratch) {t : Bool} (f : t ≡ narrow need work) (h : t ≡ false) {s : Scratch} (q : s ≡ wiped need work)
+  where
+    w1_is : s.w1 ≡ cleared 0 need work.w1
+    unfolding wiped
+    w1_is = cong (λ (z : Scratch). z.w1) q
 
-  w2_is : s.w2 ≡ cleared 0 need work.w2
-  unfolding wiped
-  w2_is = cong (λ (z : Scratch). z.w2) q
+    w2_is : s.w2 ≡ cleared 0 need work.w2
+    unfolding wiped
+    w2_is = cong (λ (z : Scratch). z.w2) q
 
-  w3_is : s.w3 ≡ cleared 0 need work.w3
-  unfolding wiped
-  w3_is = cong (λ (z : Scratch). z.w3) q
+    w3_is : s.w3 ≡ cleared 0 need work.w3
+    unfolding wiped
+    w3_is = cong (λ (z : Scratch). z.w3) q
 
-  x_is : s.x ≡ cleared none need work.x
-  unfolding wiped
-  x_is = cong (λ (z : Scratch). z.x) q
+    x_is : s.x ≡ cleared none need work.x
+    unfolding wiped
+    x_is = cong (λ (z : Scratch). z.x) q
 
-  w1_long : need ≤ length s.w1
-  w1_long = rw (w1_is, length-cleared 0 need work.w1) (not_narrow need work (sym f ∙ h)).in_w1
+    w1_long : need ≤ length s.w1
+    w1_long = rw (w1_is, length-cleared 0 need work.w1) (not_narrow need work (sym f ∙ h)).in_w1
 
-  w2_long : need ≤ length s.w2
-  w2_long = rw (w2_is, length-cleared 0 need work.w2) (not_narrow need work (sym f ∙ h)).in_w2
+    w2_long : need ≤ length s.w2
+    w2_long = rw (w2_is, length-cleared 0 need work.w2) (not_narrow need work (sym f ∙ h)).in_w2
 
-  w3_long : need ≤ length s.w3
-  w3_long = rw (w3_is, length-cleared 0 need work.w3) (not_narrow need work (sym f ∙ h)).in_w3
+    w3_long : need ≤ length s.w3
+    w3_long = rw (w3_is, length-cleared 0 need work.w3) (not_narrow need work (sym f ∙ h)).in_w3
 
-  x_long : need ≤ length s.x
-  x_long = rw (x_is, length-cleared none need work.x) (not_narrow need work (sym f ∙ h)).in_x
+    x_long : need ≤ length s.x
+    x_long = rw (x_is, length-cleared none need work.x) (not_narrow need work (sym f ∙ h)).in_x
 
-  wiped-again : (y1 y2 y3 : List ℕ) (z : List Float) {s₂ : Scratch} → length y1 ≡ n → length y2 ≡ n → length y3 ≡ n → length z ≡ n
-      → s₂ ≡ wiped need (scratch (placed 0 n s.w1 y1) (placed 0 n s.w2 y2) (placed 0 n s.w3 y3) (placed 0 n s.x z)) → s₂ ≡ wiped need work
-  unfolding wiped
-  wiped-again y1 y2 y3 z a b c d e =
-      e
-      ∙ wiped_each need work
-      (cleared-after 0 n need s.w1 y1 g (omega (arith, g, w1_long)) a ∙ (rw w1_is (cleared-again 0 need work.w1)))
-      (cleared-after 0 n need s.w2 y2 g (omega (arith, g, w2_long)) b ∙ (rw w2_is (cleared-again 0 need work.w2)))
-      (cleared-after 0 n need s.w3 y3 g (omega (arith, g, w3_long)) c ∙ (rw w3_is (cleared-again 0 need work.w3)))
-      (cleared-after none n need s.x z g (omega (arith, g, x_long)) d ∙ (rw x_is (cleared-again none need work.x)))
+    wiped-again : (y1 y2 y3 : List ℕ) (z : List Float) {s₂ : Scratch} → length y1 ≡ n → length y2 ≡ n → length y3 ≡ n → length z ≡ n
+        → s₂ ≡ wiped need (scratch (placed 0 n s.w1 y1) (placed 0 n s.w2 y2) (placed 0 n s.w3 y3) (placed 0 n s.x z)) → s₂ ≡ wiped need work
+    unfolding wiped
+    wiped-again y1 y2 y3 z a b c d e =
+        e
+        ∙ wiped_each need work
+        (cleared-after 0 n need s.w1 y1 g (omega (arith, g, w1_long)) a ∙ (rw w1_is (cleared-again 0 need work.w1)))
+        (cleared-after 0 n need s.w2 y2 g (omega (arith, g, w2_long)) b ∙ (rw w2_is (cleared-again 0 need work.w2)))
+        (cleared-after 0 n need s.w3 y3 g (omega (arith, g, w3_long)) c ∙ (rw w3_is (cleared-again 0 need work.w3)))
+        (cleared-after none n need s.x z g (omega (arith, g, x_long)) d ∙ (rw x_is (cleared-again none need work.x)))
 
 -- ---- the ways out of `product`
-late_leaves : (need : ℕ) (w : Stored) (old : Lent Stored) (t : Bool) {r : ℕ} {new : Stored} {s : Scratch} → r ≡ lowest ((7, t) ∷ []) → new ≡ outputs r w old.out → s ≡ wiped need old.work → lent new s ≡ leaves r need w old
+late_leaves : (need : ℕ) (w : Stored) (old : Lent Stored) (t : Bool) {r : ℕ} {new : Stored} {s : Scratch} → r ≡ lowest ((7, t) ∷ []) →
+    new ≡ outputs r w old.out → s ≡ wiped need old.work → lent new s ≡ leaves r need w old
 unfolding leaves worked
 late_leaves need w old t e f g = rw (e, none_early t) (λ k. lent ((rw e at f) k) (g k))
   where
@@ -365,7 +408,8 @@ module _ (n m : ℕ) (pa ia : List ℕ) (va : List Float) (k l : ℕ) (pb ib : L
   C = matrix m l pb ib vb
 
   abbrev pub Answer : ℕ → Lent Stored → Type 0
-  Answer r new = (r ≡ number A B old) × (new ≡ leaves r (needed_two A.pattern B.pattern) (written (product A B) old.out) old) × (r ≡ 0 → Valid (product A B))
+  Answer r new = (r ≡ number A B old) × (new ≡ leaves r (needed_two A.pattern B.pattern) (written (product A B) old.out) old) ×
+      (r ≡ 0 → Valid (product A B))
 
   module _ {r : ℕ} (c : r ≡ lowest (judged_two A B (not (eqb m k)))) where
     pub at_check : (r ≡ 0 → ⊥) → Answer r old
@@ -394,7 +438,8 @@ module _ (n m : ℕ) (pa ia : List ℕ) (va : List Float) (k l : ℕ) (pb ib : L
       module _ {t : Bool} (ft : t ≡ narrow (m3 + 1) old.work) where
         after_5 : lowest ((6, t) ∷ (7, short (product A B) old.out) ∷ []) ≡ number A B old
         unfolding number
-        after_5 = rw (ft, ← need_is) (then (judged_two A B (not (eqb m k))) ((6, narrow (needed_two A.pattern B.pattern) old.work) ∷ (7, short (product A B) old.out) ∷ []) (early_two A B _) c z)
+        after_5 = rw (ft, ← need_is) (then (judged_two A B (not (eqb m k)))
+            ((6, narrow (needed_two A.pattern B.pattern) old.work) ∷ (7, short (product A B) old.out) ∷ []) (early_two A B _) c z)
 
         pub at_6 : t ≡ true → Answer 6 old
         at_6 h = ((rw h at after_5), kept 6 _ _ old (omega arith) (omega arith), λ q. absurd (omega arith))
@@ -420,26 +465,35 @@ module _ (n m : ℕ) (pa ia : List ℕ) (va : List Float) (k l : ℕ) (pb ib : L
               record {
                 first = pass.first;
                 second = rw same pass.second;
-                mark_is = rw (w1_is n (m3 + 1) n_in old.work ft h q) (front-zeros 0 n (m3 + 1) old.work.w1 n_in (not_narrow (m3 + 1) old.work (sym ft ∙ h)).in_w1);
+                mark_is = rw (w1_is n (m3 + 1) n_in old.work ft h q)
+                    (front-zeros 0 n (m3 + 1) old.work.w1 n_in (not_narrow (m3 + 1) old.work (sym ft ∙ h)).in_w1);
                 met_long = part_long n s.w2 in_w2;
                 spare_long = part_long n s.w3 in_w3;
-                zeros = rw (x_is n (m3 + 1) n_in old.work ft h q) (front-zeros none n (m3 + 1) old.work.x n_in (not_narrow (m3 + 1) old.work (sym ft ∙ h)).in_x);
+                zeros = rw (x_is n (m3 + 1) n_in old.work ft h q)
+                    (front-zeros none n (m3 + 1) old.work.x n_in (not_narrow (m3 + 1) old.work (sym ft ∙ h)).in_x);
               }
 
-          module _ (y1 y2 y3 : List ℕ) (y4 : List Float) (e1 : length y1 ≡ length (part 0 n s.w1)) (e2 : length y2 ≡ length (part 0 n s.w2)) (e3 : length y3 ≡ length (part 0 n s.w3)) (e4 : length y4 ≡ length (part 0 n s.x))
-              {s₂ : Scratch} (e : s₂ ≡ wiped (m3 + 1) (scratch (placed 0 n s.w1 y1) (placed 0 n s.w2 y2) (placed 0 n s.w3 y3) (placed 0 n s.x y4))) where
-            work-wiped : s₂ ≡ wiped (m3 + 1) old.work
-            work-wiped =
-                wiped-again n (m3 + 1) n_in old.work ft h q y1 y2 y3 y4
-                (e1 ∙ part_long n s.w1 in_w1)
-                (e2 ∙ part_long n s.w2 in_w2)
-                (e3 ∙ part_long n s.w3 in_w3)
-                (e4 ∙ part_long n s.x in_x)
-                e
+          module _ (y1 y2 y3 : List ℕ) (y4 : List Float) (e1 : length y1 ≡ length (part 0 n s.w1)) (e2 : length y2 ≡ length (part 0 n s.w2))
+              (e3 : length y3 ≡ length (part 0 n s.w3)) (e4 : length y4 ≡ length (part 0 n s.x))
+              {s₂ : Scratch} (e : s₂ ≡ wiped (m3 + 1) (scratch (placed 0 n s.w1 y1) (placed 0 n s.w2 y2) (placed 0 n s.w3 y3) (placed 0 n s.x y4)))
+            where
+              work-wiped : s₂ ≡ wiped (m3 + 1) old.work
+              work-wiped =
+                  wiped-again n (m3 + 1) n_in old.work ft h q y1 y2 y3 y4
+                  (e1 ∙ part_long n s.w1 in_w1)
+                  (e2 ∙ part_long n s.w2 in_w2)
+                  (e3 ∙ part_long n s.w3 in_w3)
+                  (e4 ∙ part_long n s.x in_x)
+                  e
 
-            pub at_served : {u : ℕ} {new : Stored}
-                → (u ≡ lowest ((7, short (product A C) old.out) ∷ [])) × (new ≡ outputs u (written (product A C) old.out) old.out) × (u ≡ 0 → Valid (product A C))
-                → Answer u (lent new s₂)
-            at_served sv =
-                let v = rw same at sv in
-                (v.0 ∙ after_6, rw need_is (late_leaves (m3 + 1) (written (product A B) old.out) old (short (product A B) old.out) v.0 v.1 work-wiped), v.2)
+              pub at_served : {u : ℕ} {new : Stored}
+                  → (u ≡ lowest ((7, short (product A C) old.out) ∷ [])) × (new ≡ outputs u (written (product A C) old.out) old.out) ×
+                  (u ≡ 0 → Valid (product A C))
+                  → Answer u (lent new s₂)
+              at_served sv =
+                  let v = rw same at sv in (
+                    v.0 ∙ after_6,
+                    rw need_is (late_leaves (m3 + 1) (written (product A B) old.out) old (short (product A B) old.out) v.0 v.1
+                        work-wiped),
+                    v.2,
+                  )

@@ -92,12 +92,19 @@ module _ {n stamp : ℕ} {mark met : List ℕ} {x : List Float} {many : ℕ} (m 
     unfolding in_order
     once_ordered = rising_once (chosen_rising (λ r. lists r rows) n)
 
-    pub taking : {start : ℕ} {oi : List ℕ} {ov : List Float} → start + length (chosen n (remains x)) ≤ 4194304 → start + length (chosen n (remains x)) ≤ length oi → start + length (chosen n (remains x)) ≤ length ov
+    pub taking : {start : ℕ} {oi : List ℕ} {ov : List Float} → start + length (chosen n (remains x)) ≤ 4194304 →
+        start + length (chosen n (remains x)) ≤ length oi → start + length (chosen n (remains x)) ≤ length ov
         → Taking n start (part 0 many met') x oi ov
     taking g h k =
         rw sorted_part
         (record {
-          drain = record { small = m.small; x_long = m.x_long; once = once_ordered; below = order_below n rows; zero = λ r l z. m.zero r l (sym (order_lists n rows r l) ∙ z) };
+          drain = record {
+            small = m.small;
+            x_long = m.x_long;
+            once = once_ordered;
+            below = order_below n rows;
+            zero = λ r l z. m.zero r l (sym (order_lists n rows r l) ∙ z);
+          };
           few = rw kept-is g;
           in_i = rw kept-is h;
           in_v = rw kept-is k;
@@ -107,7 +114,9 @@ module _ {n stamp : ℕ} {mark met : List ℕ} {x : List Float} {many : ℕ} (m 
     kept-rows = ap (keep (remains x)) sorted_part ∙ kept-is
 
 -- ---- `count_column` and `write_column`
-module _ {a : Matrix} {stamp : ℕ} {rows : List ℕ} {vals : List Float} {mark met : List ℕ} {x : List Float} (s : Starting a stamp rows vals mark met x) {mark' met' : List ℕ} {x' : List Float} {many : ℕ} (e : x' ≡ over (add_column a) rows vals x) (m : Met a.pattern.nrows stamp mark' met' x' many) where
+module _ {a : Matrix} {stamp : ℕ} {rows : List ℕ} {vals : List Float} {mark met : List ℕ} {x : List Float}
+    (s : Starting a stamp rows vals mark met x) {mark' met' : List ℕ} {x' : List Float} {many : ℕ} (e : x' ≡ over (add_column a) rows vals x)
+    (m : Met a.pattern.nrows stamp mark' met' x' many) where
   x_is : x' ≡ column_of a rows vals
   unfolding column_of
   x_is = e ∙ ap (over (add_column a) rows vals) s.fresh.zeros
@@ -116,17 +125,20 @@ module _ {a : Matrix} {stamp : ℕ} {rows : List ℕ} {vals : List Float} {mark 
       → (r ≡ length (chosen a.pattern.nrows (remains (column_of a rows vals)))) × Fresh a.pattern.nrows (stamp + 1) mark' met' x₂
   column-counted f g = (f ∙ count_is m ∙ ap (λ (w : List Float). length (chosen a.pattern.nrows (remains w))) x_is, next_fresh m m.met_long g)
 
-  module _ {start : ℕ} {spare oi : List ℕ} {ov : List Float} (c : Column a stamp rows vals start mark met spare x oi ov) {y met₂ : List ℕ} (f : y ≡ in_order a.pattern.nrows (part 0 many met')) (g : met₂ ≡ placed 0 many met' y) where
+  module _ {start : ℕ} {spare oi : List ℕ} {ov : List Float} (c : Column a stamp rows vals start mark met spare x oi ov) {y met₂ : List ℕ}
+      (f : y ≡ in_order a.pattern.nrows (part 0 many met')) (g : met₂ ≡ placed 0 many met' y) where
     pub column_taking : Taking a.pattern.nrows start (part 0 many met₂) x' oi ov
     column_taking = taking m f g (rw x_is c.few) (rw x_is c.in_i) (rw x_is c.in_v)
 
     l_is : keep (remains x') (part 0 many met₂) ≡ chosen a.pattern.nrows (remains (column_of a rows vals))
     l_is = kept-rows m f g ∙ ap (λ (w : List Float). chosen a.pattern.nrows (remains w)) x_is
 
-    pub column-written : {r : ℕ} {oi₂ : List ℕ} {ov₂ x₂ : List Float} → r ≡ start + length (keep (remains x') (part 0 many met₂)) → oi₂ ≡ laid start oi (keep (remains x') (part 0 many met₂))
+    pub column-written : {r : ℕ} {oi₂ : List ℕ} {ov₂ x₂ : List Float} → r ≡ start + length (keep (remains x') (part 0 many met₂)) →
+        oi₂ ≡ laid start oi (keep (remains x') (part 0 many met₂))
         → ov₂ ≡ laid start ov (values_of a.pattern.nrows start rows x' (keep (remains x') (part 0 many met₂))) → x₂ ≡ replicate a.pattern.nrows none
         → (let w = column_of a rows vals in let l = chosen a.pattern.nrows (remains w) in
-        (r ≡ start + length l) × (oi₂ ≡ laid start oi l) × (ov₂ ≡ laid start ov (map (λ (j : ℕ). get_or w j nan) l)) × Fresh a.pattern.nrows (stamp + 1) mark' met₂ x₂)
+        (r ≡ start + length l) × (oi₂ ≡ laid start oi l) × (ov₂ ≡ laid start ov (map (λ (j : ℕ). get_or w j nan) l)) ×
+        Fresh a.pattern.nrows (stamp + 1) mark' met₂ x₂)
     column-written p q t u = (
       p ∙ ap (λ (l : List ℕ). start + length l) l_is,
       q ∙ ap (laid start oi) l_is,

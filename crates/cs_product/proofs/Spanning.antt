@@ -93,31 +93,38 @@ module _ (nrows ncols : ℕ) (p i cols : List ℕ) where
             let z : b + 0 ≡ b = omega arith in
             let o = rw z at (place 0 (omega (arith, long))) in
             let n : 0 ≤ q = omega arith in
-            ⊎_elim (λ (t : 0 ≡ q). rw (← t) (omega (arith, o))) (λ (t : 0 < q). omega (arith, o, rises-apart (column p c i) up 0 q t l)) (eq-or-lt_of_le n)
+            ⊎_elim (λ (t : 0 ≡ q). rw (← t) (omega (arith, o))) (λ (t : 0 < q). omega (arith, o, rises-apart (column p c i) up 0 q t l))
+            (eq-or-lt_of_le n)
 
         largest : (q : ℕ) → q < length (column p c i) → get_or (column p c i) q 0 ≤ get_or i (e - 1) 0
         largest q l =
             let z : b + (e - b - 1) ≡ e - 1 = omega (arith, long) in
             let o = rw z at (place (e - b - 1) (omega (arith, long))) in
-            ⊎_elim (λ (t : q ≡ e - b - 1). rw t (omega (arith, o))) (λ (t : q < e - b - 1). omega (arith, o, rises-apart (column p c i) up q (e - b - 1) t (omega (arith, long)))) (eq-or-lt_of_le (omega (arith, long)))
+            ⊎_elim (λ (t : q ≡ e - b - 1). rw t (omega (arith, o)))
+            (λ (t : q < e - b - 1). omega (arith, o, rises-apart (column p c i) up q (e - b - 1) t (omega (arith, long))))
+            (eq-or-lt_of_le (omega (arith, long)))
 
         same : (m : ℕ) → m ≡ k → rows_at m ≡ column p c i
         same m t = rw (t, ec)
 
-        next : {lo' hi' work' : ℕ} → lo' ≤ lo → hi ≤ hi' → hi' ≤ nrows → ((q : ℕ) → q < length (column p c i) → lo' ≤ get_or (column p c i) q 0) → ((q : ℕ) → q < length (column p c i) → get_or (column p c i) q 0 < hi')
+        next : {lo' hi' work' : ℕ} → lo' ≤ lo → hi ≤ hi' → hi' ≤ nrows → ((q : ℕ) → q < length (column p c i) → lo' ≤ get_or (column p c i) q 0) →
+            ((q : ℕ) → q < length (column p c i) → get_or (column p c i) q 0 < hi')
             → work' ≡ work + (e - b) → Spanning lo' hi' work' (k + 1)
         next {work' = work'} u v w x y z =
             record {
               ask = s.ask;
               inside = w;
-              low = λ m l q o. ⊎_elim (λ (t : m ≡ k). rw (same m t) (x q (rw (same m t) at o))) (λ (t : m < k). omega (arith, s.low m t q o)) (eq-or-lt_of_le (omega arith));
-              high = λ m l q o. ⊎_elim (λ (t : m ≡ k). rw (same m t) (y q (rw (same m t) at o))) (λ (t : m < k). omega (arith, s.high m t q o)) (eq-or-lt_of_le (omega arith));
+              low = λ m l q o. ⊎_elim (λ (t : m ≡ k). rw (same m t) (x q (rw (same m t) at o))) (λ (t : m < k). omega (arith, s.low m t q o))
+                  (eq-or-lt_of_le (omega arith));
+              high = λ m l q o. ⊎_elim (λ (t : m ≡ k). rw (same m t) (y q (rw (same m t) at o))) (λ (t : m < k). omega (arith, s.high m t q o))
+                  (eq-or-lt_of_le (omega arith));
               small = omega (arith, s.small, handed.inside, s.ask.valid.entries);
               work_is = along-turn (λ (c n : ℕ). n + length (column p c i)) cols 0 s.work_is h (z ∙ (rw (← ec) (omega (arith, long))));
             }
 
         pub spanning_off : e ≤ b → Spanning lo hi work (k + 1)
-        spanning_off o = next (omega arith) (omega arith) s.inside (λ q l. absurd (omega (arith, long))) (λ q l. absurd (omega (arith, long))) (omega arith)
+        spanning_off o = next (omega arith) (omega arith) s.inside (λ q l. absurd (omega (arith, long))) (λ q l. absurd (omega (arith, long)))
+            (omega arith)
 
         module _ (o : b < e) where
           pub first-in : b < length i
@@ -129,8 +136,10 @@ module _ (nrows ncols : ℕ) (p i cols : List ℕ) where
           pub last-below : get_or i (e - 1) 0 < nrows
           last-below = s.ask.valid.below (e - 1) last-in
 
-          pub spanning_on : {y z lo' hi' : ℕ} → y ≡ get_or i b 0 → z ≡ get_or i (e - 1) 0 → lo' ≡ min lo y → hi' ≡ max hi (z + 1) → Spanning lo' hi' (work + (e - b)) (k + 1)
-          spanning_on ey ez u v = next (omega arith) (omega arith) (omega (arith, s.inside, last-below, ez)) (λ q l. omega (arith, ey, least q l)) (λ q l. omega (arith, ez, largest q l)) refl
+          pub spanning_on : {y z lo' hi' : ℕ} → y ≡ get_or i b 0 → z ≡ get_or i (e - 1) 0 → lo' ≡ min lo y → hi' ≡ max hi (z + 1) →
+              Spanning lo' hi' (work + (e - b)) (k + 1)
+          spanning_on ey ez u v = next (omega arith) (omega arith) (omega (arith, s.inside, last-below, ez)) (λ q l. omega (arith, ey, least q l))
+              (λ q l. omega (arith, ez, largest q l)) refl
 
 -- ---- how many rows remain
 module _ (n : ℕ) where
@@ -150,7 +159,8 @@ module _ (n : ℕ) where
   over-more beta (r ∷ rows) (v ∷ vals) w = omega (arith, at_more beta r v w, over-more beta rows vals (plus_at beta r v w))
 
 -- ---- what is not added to
-over-keeps : (beta : Float) (rows : List ℕ) (vals w : List Float) (r : ℕ) → ((q : ℕ) → q < length rows → get_or rows q 0 ≡ r → ⊥) → get_or (over (plus_at beta) rows vals w) r nan ≡ get_or w r nan
+over-keeps : (beta : Float) (rows : List ℕ) (vals w : List Float) (r : ℕ) → ((q : ℕ) → q < length rows → get_or rows q 0 ≡ r → ⊥) →
+    get_or (over (plus_at beta) rows vals w) r nan ≡ get_or w r nan
 unfolding plus_at
 over-keeps beta rows vals w r f = over_other nan (plus_at beta) r (λ z v x n. get_or-set_other x z r _ nan n) rows vals f w
 
@@ -167,18 +177,22 @@ module _ (a : Matrix) where
   unfolding over along
   work-most [] vals w m e h = h
   work-most (c ∷ cols) [] w m e h = absurd (omega arith)
-  work-most (c ∷ cols) (v ∷ vals) w m e h = work-most cols vals (add_column a c v w) (m + length (rows_of c)) (omega arith) (omega (arith, column-more c v w))
+  work-most (c ∷ cols) (v ∷ vals) w m e h = work-most cols vals (add_column a c v w) (m + length (rows_of c)) (omega arith)
+      (omega (arith, column-more c v w))
 
-  column-keeps : (c : ℕ) (beta : Float) (w : List Float) (r : ℕ) → ((q : ℕ) → q < length (rows_of c) → get_or (rows_of c) q 0 ≡ r → ⊥) → get_or (add_column a c beta w) r nan ≡ get_or w r nan
+  column-keeps : (c : ℕ) (beta : Float) (w : List Float) (r : ℕ) → ((q : ℕ) → q < length (rows_of c) → get_or (rows_of c) q 0 ≡ r → ⊥) →
+      get_or (add_column a c beta w) r nan ≡ get_or w r nan
   unfolding add_column
   column-keeps c beta w r f = over-keeps beta (rows_of c) (column a.pattern.p c a.v) w r f
 
-  columns-keep : (cols : List ℕ) (vals w : List Float) (r : ℕ) → ((k : ℕ) → k < length cols → (q : ℕ) → q < length (rows_of (get_or cols k 0)) → get_or (rows_of (get_or cols k 0)) q 0 ≡ r → ⊥)
+  columns-keep : (cols : List ℕ) (vals w : List Float) (r : ℕ) → ((k : ℕ) → k < length cols → (q : ℕ) → q < length (rows_of (get_or cols k 0)) →
+      get_or (rows_of (get_or cols k 0)) q 0 ≡ r → ⊥)
       → get_or (over (add_column a) cols vals w) r nan ≡ get_or w r nan
   unfolding over
   columns-keep [] vals w r f = refl
   columns-keep (c ∷ cols) [] w r f = refl
-  columns-keep (c ∷ cols) (v ∷ vals) w r f = columns-keep cols vals (add_column a c v w) r (λ k l. f (suc k) (omega arith)) ∙ column-keeps c v w r (f 0 (omega arith))
+  columns-keep (c ∷ cols) (v ∷ vals) w r f = columns-keep cols vals (add_column a c v w) r (λ k l. f (suc k) (omega arith)) ∙
+      column-keeps c v w r (f 0 (omega arith))
 
   -- ---- of a column whose span is known
   module _ {cols : List ℕ} {lo hi work : ℕ} (s : Spanned a.pattern cols lo hi work) (vals : List Float) where
@@ -207,7 +221,8 @@ module _ (a : Matrix) where
         zeros : many a.pattern.nrows (replicate a.pattern.nrows none) ≤ 0
         zeros =
             let w = replicate a.pattern.nrows none in
-            chosen-between a.pattern.nrows (remains w) 0 0 (omega arith) (omega arith) (λ r h. absurd (omega arith)) (λ r h g. dropped w r (get_or-replicate a.pattern.nrows r none nan g))
+            chosen-between a.pattern.nrows (remains w) 0 0 (omega arith) (omega arith) (λ r h. absurd (omega arith))
+            (λ r h g. dropped w r (get_or-replicate a.pattern.nrows r none nan g))
 
     pub column_few : length vals ≡ length cols → many a.pattern.nrows (column_of a cols vals) ≤ min (hi - lo) work
     column_few e = omega (arith, few_rows, little-work e)

@@ -61,7 +61,8 @@ module _ (n lo hi start : ℕ) where
       nothing : chosen lo (remains x) ≡ []
       nothing = chosen-rest (remains x) 0 lo (omega arith) (λ m g h. dropped x m (a.below m h)) ∙ chosen_none (remains x)
 
-  module _ {x₀ : List Float} {oi₀ : List ℕ} {ov₀ : List Float} {x : List Float} {oi : List ℕ} {ov : List Float} {at r : ℕ} (s : Sweeping x₀ oi₀ ov₀ x oi ov at r) where
+  module _ {x₀ : List Float} {oi₀ : List ℕ} {ov₀ : List Float} {x : List Float} {oi : List ℕ} {ov : List Float} {at r : ℕ}
+      (s : Sweeping x₀ oi₀ ov₀ x oi ov at r) where
     room : length (kept x₀ r) ≤ length (chosen n (remains x₀))
     room = chosen_grows (remains x₀) r n (omega (arith, s.upto, s.ask.inside))
 
@@ -89,7 +90,8 @@ module _ (n lo hi start : ℕ) where
       test = rw (s.left r (omega arith))
 
       out_done : (q : ℕ) → q < r + 1 → get_or (set x r none) q nan ≡ none
-      out_done q g = ⊎_elim (λ (e : q ≡ r). rw e (get_or-set_same x r none nan r_in)) (λ (l : q < r). get_or-set_other x r q none nan (λ e. omega arith) ∙ s.done q l) (eq-or-lt_of_le (omega arith))
+      out_done q g = ⊎_elim (λ (e : q ≡ r). rw e (get_or-set_same x r none nan r_in))
+          (λ (l : q < r). get_or-set_other x r q none nan (λ e. omega arith) ∙ s.done q l) (eq-or-lt_of_le (omega arith))
 
       out_left : (q : ℕ) → r + 1 ≤ q → get_or (set x r none) q nan ≡ get_or x₀ q nan
       out_left q g = get_or-set_other x r q none nan (λ e. omega arith) ∙ s.left q (omega arith)
@@ -99,7 +101,13 @@ module _ (n lo hi start : ℕ) where
         more = chosen_more r (remains x₀) (test ∙ t)
 
         fits : at + 1 ≤ start + length (chosen n (remains x₀))
-        fits = omega (arith, s.at_is, ap length more, length-append (kept x₀ r) (r ∷ []), chosen_grows (remains x₀) (r + 1) n (omega (arith, s.ask.inside)))
+        fits = omega (
+          arith,
+          s.at_is,
+          ap length more,
+          length-append (kept x₀ r) (r ∷ []),
+          chosen_grows (remains x₀) (r + 1) n (omega (arith, s.ask.inside)),
+        )
 
         pub at-in_i : at < length oi
         at-in_i = omega (arith, fits, s.ask.in_i, sweeping_i)
@@ -120,19 +128,36 @@ module _ (n lo hi start : ℕ) where
               i_is = rw (s.i_is, more) (laid_more start oi₀ (kept x₀ r) r at s.at_is (omega (arith, fits, s.ask.in_i)));
               v_is =
                   rw (s.v_is, more, s.left r (omega arith), map_more (λ (j : ℕ). get_or x₀ j nan) (kept x₀ r) r)
-                  (laid_more start ov₀ (values x₀ (kept x₀ r)) (get_or x₀ r nan) at (omega (arith, s.at_is, vals_long)) (omega (arith, fits, s.ask.in_v)));
+                  (laid_more start ov₀ (values x₀ (kept x₀ r)) (get_or x₀ r nan) at (omega (arith, s.at_is, vals_long))
+                  (omega (arith, fits, s.ask.in_v)));
             }
 
       pub sweeping_off : ne (get_or x r nan) none ≡ false → Sweeping x₀ oi₀ ov₀ (set x r none) oi ov at (r + 1)
       sweeping_off t =
           let m : kept x₀ (r + 1) ≡ kept x₀ r = chosen-same r (remains x₀) (test ∙ t) in
-          record { ask = s.ask; from = omega (arith, s.from); upto = omega arith; long = length-set x r none ∙ s.long; done = out_done; left = out_left; at_is = rw m s.at_is; i_is = rw m s.i_is; v_is = rw m s.v_is }
+          record {
+            ask = s.ask;
+            from = omega (arith, s.from);
+            upto = omega arith;
+            long = length-set x r none ∙ s.long;
+            done = out_done;
+            left = out_left;
+            at_is = rw m s.at_is;
+            i_is = rw m s.i_is;
+            v_is = rw m s.v_is;
+          }
 
     pub sweeping_done : hi ≤ r
-        → (at ≡ start + length (chosen n (remains x₀))) × (oi ≡ laid start oi₀ (chosen n (remains x₀))) × (ov ≡ laid start ov₀ (values x₀ (chosen n (remains x₀)))) × (x ≡ replicate n none)
+        → (at ≡ start + length (chosen n (remains x₀))) × (oi ≡ laid start oi₀ (chosen n (remains x₀))) ×
+        (ov ≡ laid start ov₀ (values x₀ (chosen n (remains x₀)))) × (x ≡ replicate n none)
     sweeping_done h =
-        let e = all in
-        (s.at_is ∙ ap (λ (l : List ℕ). start + length l) e, s.i_is ∙ ap (laid start oi₀) e, s.v_is ∙ ap (λ (l : List ℕ). laid start ov₀ (values x₀ l)) e, zeros)
+        let e = all in (
+          s.at_is ∙ ap (λ (l : List ℕ). start + length l) e,
+          s.i_is ∙ ap (laid start oi₀) e,
+          s.v_is ∙
+              ap (λ (l : List ℕ). laid start ov₀ (values x₀ l)) e,
+          zeros,
+        )
       where
         all : kept x₀ r ≡ chosen n (remains x₀)
         all = sym (chosen-rest (remains x₀) r n (omega (arith, s.upto, s.ask.inside)) (λ m g l. dropped x₀ m (s.ask.behind m (omega arith) l)))
@@ -146,7 +171,8 @@ module _ (n lo hi start : ℕ) where
             ∙ sym (get_or-replicate n q none nan l))
 
 -- ---- `write_dense`
-module _ {a : Matrix} {rows : List ℕ} {vals : List Float} {lo hi start : ℕ} {x : List Float} {oi : List ℕ} {ov : List Float} (d : Dense a rows vals lo hi start x oi ov) {x' : List Float} (e : x' ≡ over (add_column a) rows vals x) (m : length x' ≡ length x) where
+module _ {a : Matrix} {rows : List ℕ} {vals : List Float} {lo hi start : ℕ} {x : List Float} {oi : List ℕ} {ov : List Float}
+    (d : Dense a rows vals lo hi start x oi ov) {x' : List Float} (e : x' ≡ over (add_column a) rows vals x) (m : length x' ≡ length x) where
   x_is : x' ≡ column_of a rows vals
   unfolding column_of
   x_is = e ∙ ap (over (add_column a) rows vals) d.zeros
@@ -169,11 +195,13 @@ module _ {a : Matrix} {rows : List ℕ} {vals : List Float} {lo hi start : ℕ} 
       → (r ≡ start + length (chosen a.pattern.nrows (remains x'))) × (oi₂ ≡ laid start oi (chosen a.pattern.nrows (remains x')))
       × (ov₂ ≡ laid start ov (map (λ (j : ℕ). get_or x' j nan) (chosen a.pattern.nrows (remains x')))) × (x₂ ≡ replicate a.pattern.nrows none)
       → (let w = column_of a rows vals in let l = chosen a.pattern.nrows (remains w) in
-      (r ≡ start + length l) × (oi₂ ≡ laid start oi l) × (ov₂ ≡ laid start ov (map (λ (j : ℕ). get_or w j nan) l)) × (x₂ ≡ replicate a.pattern.nrows none))
+      (r ≡ start + length l) × (oi₂ ≡ laid start oi l) × (ov₂ ≡ laid start ov (map (λ (j : ℕ). get_or w j nan) l)) ×
+      (x₂ ≡ replicate a.pattern.nrows none))
   dense_written t = rw x_is at t
 
 -- ---- `write_column`
-module _ {a : Matrix} {stamp : ℕ} {rows : List ℕ} {vals : List Float} {start : ℕ} {mark met spare : List ℕ} {x : List Float} {oi : List ℕ} {ov : List Float} (c : Column a stamp rows vals start mark met spare x oi ov) where
+module _ {a : Matrix} {stamp : ℕ} {rows : List ℕ} {vals : List Float} {start : ℕ} {mark met spare : List ℕ} {x : List Float} {oi : List ℕ}
+    {ov : List Float} (c : Column a stamp rows vals start mark met spare x oi ov) where
   pub column-within : Within a.pattern rows
   column-within = record { valid = c.starting.valid.pattern; few = c.starting.few; below = c.starting.below }
 

@@ -86,7 +86,8 @@ unfolding add_column
 column_of a rows vals = over (add_column a) rows vals (replicate a.pattern.nrows none)
 
 -- what `write_column` and `write_listed` ask: as `accumulate`, a spare slice, and room for what remains, from `start` on
-pub record Column (a : Matrix) (stamp : ℕ) (rows : List ℕ) (vals : List Float) (start : ℕ) (mark met spare : List ℕ) (x : List Float) (oi : List ℕ) (ov : List Float) : Type 0 where
+pub record Column (a : Matrix) (stamp : ℕ) (rows : List ℕ) (vals : List Float) (start : ℕ) (mark met spare : List ℕ) (x : List Float) (oi : List ℕ)
+    (ov : List Float) : Type 0 where
   pub starting : Starting a stamp rows vals mark met x
   pub spare_long : length spare ≡ a.pattern.nrows
   pub few : start + length (chosen a.pattern.nrows (remains (column_of a rows vals))) ≤ 4194304

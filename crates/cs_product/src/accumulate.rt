@@ -53,7 +53,8 @@ pub fn accumulate(
     x: &mut [f64],
 ) -> usize
     requires { Starting (matrix nrows ncols p.now i.now v.now) stamp rows.now vals.now mark.old met.old x.old }
-    ensures { (x.new ≡ over (add_column (matrix nrows ncols p.now i.now v.now)) rows.now vals.now x.old) × Met nrows stamp mark.new met.new x.new result }
+    ensures { (x.new ≡ over (add_column (matrix nrows ncols p.now i.now v.now)) rows.now vals.now x.old) ×
+        Met nrows stamp mark.new met.new x.new result }
 {
     let mut many = 0;
     for k in 0..rows.len() {

@@ -59,7 +59,8 @@ fn write_listed(
     requires { Column (matrix nrows ncols p.now i.now v.now) stamp rows.now vals.now start mark.old met.old spare.old x.old oi.old ov.old }
     ensures { let w = column_of (matrix nrows ncols p.now i.now v.now) rows.now vals.now in
         let l = chosen nrows (remains w) in
-        (result ≡ start + length l) × (oi.new ≡ laid start oi.old l) × (ov.new ≡ laid start ov.old (map (λ j. get_or w j nan) l)) × Fresh nrows (stamp + 1) mark.new met.new x.new }
+        (result ≡ start + length l) × (oi.new ≡ laid start oi.old l) × (ov.new ≡ laid start ov.old (map (λ j. get_or w j nan) l)) ×
+        Fresh nrows (stamp + 1) mark.new met.new x.new }
 {
     let many = accumulate(nrows, ncols, p, i, v, stamp, rows, vals, mark, met, x);
     sort(nrows, &mut met[0..many], spare);
@@ -85,7 +86,8 @@ fn write_dense(
     requires { Dense (matrix nrows ncols p.now i.now v.now) rows.now vals.now lo hi start x.old oi.old ov.old }
     ensures { let w = column_of (matrix nrows ncols p.now i.now v.now) rows.now vals.now in
         let l = chosen nrows (remains w) in
-        (result ≡ start + length l) × (oi.new ≡ laid start oi.old l) × (ov.new ≡ laid start ov.old (map (λ j. get_or w j nan) l)) × (x.new ≡ replicate nrows none) }
+        (result ≡ start + length l) × (oi.new ≡ laid start oi.old l) × (ov.new ≡ laid start ov.old (map (λ j. get_or w j nan) l)) ×
+        (x.new ≡ replicate nrows none) }
 {
     accumulate_plain(nrows, ncols, p, i, v, rows, vals, x);
     sweep(nrows, lo, hi, start, x, oi, ov)
@@ -112,7 +114,8 @@ pub fn write_column(
     requires { Column (matrix nrows ncols p.now i.now v.now) stamp rows.now vals.now start mark.old met.old spare.old x.old oi.old ov.old }
     ensures { let w = column_of (matrix nrows ncols p.now i.now v.now) rows.now vals.now in
         let l = chosen nrows (remains w) in
-        (result ≡ start + length l) × (oi.new ≡ laid start oi.old l) × (ov.new ≡ laid start ov.old (map (λ j. get_or w j nan) l)) × Fresh nrows (stamp + 1) mark.new met.new x.new }
+        (result ≡ start + length l) × (oi.new ≡ laid start oi.old l) × (ov.new ≡ laid start ov.old (map (λ j. get_or w j nan) l)) ×
+        Fresh nrows (stamp + 1) mark.new met.new x.new }
 {
     let s = span_of(nrows, ncols, p, i, rows);
     if s.hi - s.lo <= 2 * s.work {

@@ -36,7 +36,8 @@ pub fn gather(
 ) -> usize
     requires { Taking n start rows.now x.old oi.old ov.old }
     ensures { let w = x.old in let l = keep (remains w) rows.now in
-        (result ≡ start + length l) × (oi.new ≡ laid start oi.old l) × (ov.new ≡ laid start ov.old (map (λ j. get_or w j nan) l)) × (x.new ≡ replicate n none) }
+        (result ≡ start + length l) × (oi.new ≡ laid start oi.old l) × (ov.new ≡ laid start ov.old (map (λ j. get_or w j nan) l)) ×
+        (x.new ≡ replicate n none) }
 {
     let mut at = start;
     for k in 0..rows.len() {

@@ -30,7 +30,8 @@ fn fill(
     oi: &mut [u32],
     ov: &mut [f64],
 )
-    requires { Ready (matrix nrows ncols ap.now ai.now av.now) (matrix ncols bncols bp.now bi.now bv.now) mark.old met.old spare.old x.old (stored op.old oi.old ov.old) }
+    requires { Ready (matrix nrows ncols ap.now ai.now av.now) (matrix ncols bncols bp.now bi.now bv.now) mark.old met.old spare.old x.old
+        (stored op.old oi.old ov.old) }
     ensures { let a = matrix nrows ncols ap.now ai.now av.now in
         let b = matrix ncols bncols bp.now bi.now bv.now in
         stored op.new oi.new ov.new ≡ written (productOf a b) (stored op.old oi.old ov.old) }
@@ -85,7 +86,8 @@ fn serve(
         let b = matrix ncols bncols bp.now bi.now bv.now in
         let old = stored op.old oi.old ov.old in
         let new = stored op.new oi.new ov.new in
-        (result ≡ lowest ((7, short (productOf a b) old) ∷ [])) × (new ≡ outputs result (written (productOf a b) old) old) × (result ≡ 0 → Valid (productOf a b)) }
+        (result ≡ lowest ((7, short (productOf a b) old) ∷ [])) × (new ≡ outputs result (written (productOf a b) old) old) ×
+        (result ≡ 0 → Valid (productOf a b)) }
 {
     if lacks_room(
         nrows,
@@ -137,7 +139,8 @@ pub fn product(
         let b = matrix bnrows bncols bp.now bi.now bv.now in
         let old = lent (stored op.old oi.old ov.old) (scratch w1.old w2.old w3.old x.old) in
         let new = lent (stored op.new oi.new ov.new) (scratch w1.new w2.new w3.new x.new) in
-        (result ≡ number a b old) × (new ≡ leaves result (needed_two a.pattern b.pattern) (written (productOf a b) old.out) old) × (result ≡ 0 → Valid (productOf a b)) }
+        (result ≡ number a b old) × (new ≡ leaves result (needed_two a.pattern b.pattern) (written (productOf a b) old.out) old) ×
+        (result ≡ 0 → Valid (productOf a b)) }
 {
     let refused = check_two(
         nrows,

@@ -19,7 +19,8 @@ pub fn sweep(
 ) -> usize
     requires { Swept n lo hi start x.old oi.old ov.old }
     ensures { let w = x.old in let l = chosen n (remains w) in
-        (result ≡ start + length l) × (oi.new ≡ laid start oi.old l) × (ov.new ≡ laid start ov.old (map (λ j. get_or w j nan) l)) × (x.new ≡ replicate n none) }
+        (result ≡ start + length l) × (oi.new ≡ laid start oi.old l) × (ov.new ≡ laid start ov.old (map (λ j. get_or w j nan) l)) ×
+        (x.new ≡ replicate n none) }
 {
     let mut at = start;
     for r in lo..hi {

@@ -40,6 +40,7 @@ module _ {m n : ℕ} {p i : List ℕ} {v : List Float} (a : Valid (matrix m n p 
   part-below k h = below-part s e m i b.inside a.pattern.below k h
 
 -- the value at row j of that part is the diagonal
-pub diagonal-is : (m n : ℕ) {p i : List ℕ} {v : List Float} {j s e : ℕ} {d : Float} → Handed p i v j s e → d ≡ value_at j (part s e i) (part s e v) → d ≡ diagonal (matrix m n p i v) j
+pub diagonal-is : (m n : ℕ) {p i : List ℕ} {v : List Float} {j s e : ℕ} {d : Float} → Handed p i v j s e → d ≡ value_at j (part s e i) (part s e v)
+    → d ≡ diagonal (matrix m n p i v) j
 unfolding diagonal
 diagonal-is m n b q = q ∙ (rw (b.rows, b.vals))

@@ -23,7 +23,8 @@ module _ (j : ℕ) (rows : List ℕ) (vals : List Float) where
   looking_start = record { rest = refl }
 
   module _ {k : ℕ} (v : Looking k) where
-    here : k < length rows → k < length vals → value_at j rows vals ≡ cond (eqb (get_or rows k 0) j) (get_or vals k nan) (value_at j (drop (k + 1) rows) (drop (k + 1) vals))
+    here : k < length rows → k < length vals → value_at j rows vals ≡ cond (eqb (get_or rows k 0) j) (get_or vals k nan)
+        (value_at j (drop (k + 1) rows) (drop (k + 1) vals))
     unfolding value_at
     here g h = v.rest ∙ pair_at (value_at j) rows vals k 0 nan g h
 

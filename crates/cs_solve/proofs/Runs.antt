@@ -23,7 +23,8 @@ use Rattle.cs_solve.proofs.Steps.{lower-set, lower-above}
 whole : {A : Type 0} (l : List A) (d : A) (n : ℕ) → 1 < n → length l ≡ n → l ≡ get_or l 0 d ∷ part 1 n l
 whole l d n h e = sym (take_all (n - 0) l (omega arith)) ∙ part-first 0 n l d (omega arith) (omega arith)
 
-module _ {j : ℕ} {rows : List ℕ} {vals : List Float} (b : List Float) {n : ℕ} (a : Column j (length b) rows vals) (h : rises rows ≡ true) (is : length rows ≡ n) (many : 1 < n) where
+module _ {j : ℕ} {rows : List ℕ} {vals : List Float} (b : List Float) {n : ℕ} (a : Column j (length b) rows vals) (h : rises rows ≡ true)
+    (is : length rows ≡ n) (many : 1 < n) where
   below_rise : rises (part 1 n rows) ≡ true
   below_rise = rises-part 1 n rows (omega arith) (λ y z f g l. rises-apart rows h y z g (omega arith))
 
@@ -39,10 +40,12 @@ module _ {j : ℕ} {rows : List ℕ} {vals : List Float} (b : List Float) {n : �
 
     pub run-within : first + (n - 1) ≤ length b
     run-within =
-        let w = tight-within (part 1 n rows) below_rise t (length b) (λ q g. rw (get_d_part 1 n rows q 0 (omega (arith, below_long))) (a.below (1 + q) (omega (arith, below_long)))) in
+        let w = tight-within (part 1 n rows) below_rise t (length b) (λ q g. rw (get_d_part 1 n rows q 0 (omega (arith, below_long)))
+        (a.below (1 + q) (omega (arith, below_long)))) in
         omega (arith, first-is, below_long)
 
-    pub run_lowers : (x : Float) → get_or rows 0 0 ≡ j → {y : List Float} → y ≡ zipped (λ y v. sub binary64 y (mul binary64 x v)) (part first (first + (n - 1)) b) (part 1 n vals)
+    pub run_lowers : (x : Float) → get_or rows 0 0 ≡ j → {y : List Float} →
+        y ≡ zipped (λ y v. sub binary64 y (mul binary64 x v)) (part first (first + (n - 1)) b) (part 1 n vals)
         → placed first (first + (n - 1)) b y ≡ over (lower_at j x) rows vals b
     run_lowers x d q =
         let low : j < first = omega (arith, rises-apart rows h 0 1 (omega arith) (omega arith)) in

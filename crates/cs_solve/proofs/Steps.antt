@@ -88,7 +88,8 @@ module _ (j : ℕ) (d : Float) (rows : List ℕ) (vals b : List Float) where
 
   pub length-forward_at : length (forward_at j d rows vals b) ≡ length b
   unfolding forward_at
-  length-forward_at = over-keeps length (lower_at j quotient) rows vals (λ i v c m. length-lower_at j quotient i v c) (set b j quotient) ∙ length-set b j quotient
+  length-forward_at = over-keeps length (lower_at j quotient) rows vals (λ i v c m. length-lower_at j quotient i v c) (set b j quotient) ∙
+      length-set b j quotient
 
   pub forward_out : length b ≤ j → b ≡ forward_at j d rows vals b
   unfolding forward_at
@@ -106,7 +107,12 @@ module _ (j i : ℕ) (v : Float) (b : List Float) (y : Float) where
 
   raise_set : j < length b → j < i → set b j (sub binary64 y (mul binary64 v (get_or b i nan))) ≡ raise_at j i v (set b j y)
   unfolding raise_at
-  raise_set g h = rw (lt-ltb j i h, get_or-set_same b j y nan g, get_or-set_other b j i y nan (λ (e : i ≡ j). omega arith), set-set b j y (sub binary64 y (mul binary64 v (get_or b i nan))))
+  raise_set g h = rw (
+    lt-ltb j i h,
+    get_or-set_same b j y nan g,
+    get_or-set_other b j i y nan (λ (e : i ≡ j). omega arith),
+    set-set b j y (sub binary64 y (mul binary64 v (get_or b i nan))),
+  )
 
 length-raise_at : (j i : ℕ) (v : Float) (b : List Float) → length (raise_at j i v b) ≡ length b
 unfolding raise_at
@@ -142,10 +148,12 @@ module _ {j : ℕ} {rows : List ℕ} {vals b : List Float} {y : Float} {k : ℕ}
   raising_end h = over-end (raise_at j) rows vals w.rest h
 
 -- ---- transposed: one column
-pub transposed-is : (j : ℕ) (d : Float) (rows : List ℕ) (vals b : List Float) (y : Float) → j < length b → set b j y ≡ over (raise_at j) rows vals b → set b j (div binary64 y d) ≡ transposed_at j d rows vals b
+pub transposed-is : (j : ℕ) (d : Float) (rows : List ℕ) (vals b : List Float) (y : Float) → j < length b → set b j y ≡ over (raise_at j) rows vals b
+    → set b j (div binary64 y d) ≡ transposed_at j d rows vals b
 unfolding transposed_at
 transposed-is j d rows vals b y h e = rw (← e, get_or-set_same b j y nan h, set-set b j y (div binary64 y d))
 
 pub length-transposed_at : (j : ℕ) (d : Float) (rows : List ℕ) (vals b : List Float) → length (transposed_at j d rows vals b) ≡ length b
 unfolding transposed_at
-length-transposed_at j d rows vals b = length-set (over (raise_at j) rows vals b) j _ ∙ over-keeps length (raise_at j) rows vals (λ i v c m. length-raise_at j i v c) b
+length-transposed_at j d rows vals b = length-set (over (raise_at j) rows vals b) j _ ∙
+    over-keeps length (raise_at j) rows vals (λ i v c m. length-raise_at j i v c) b

@@ -18,7 +18,8 @@ use Rattle.cs_solve.proofs.Steps.{length-forward_column, length-transposed_at}
 
 -- ---- rising
 -- the step that the code makes is the column's
-pub forward-step : (m n : ℕ) {p i : List ℕ} {v : List Float} {j s e : ℕ} {d : Float} (b : List Float) {b' : List Float} → Handed p i v j s e → d ≡ value_at j (part s e i) (part s e v)
+pub forward-step : (m n : ℕ) {p i : List ℕ} {v : List Float} {j s e : ℕ} {d : Float} (b : List Float) {b' : List Float} → Handed p i v j s e →
+    d ≡ value_at j (part s e i) (part s e v)
     → b' ≡ forward_at j d (part s e i) (part s e v) b → b' ≡ forward_column (matrix m n p i v) j b
 unfolding forward_column
 forward-step m n b h q e = e ∙ (rw (diagonal-is m n h q, h.rows, h.vals))
@@ -36,21 +37,30 @@ forwarding_start a {b} l = record { valid = a; within = omega arith; long = refl
 module _ {n : ℕ} {p i : List ℕ} {v b₀ b : List Float} {j : ℕ} (w : Forwarding n p i v b₀ b j) where
   pub forwarding_asked : {s e : ℕ} → j < n → Handed p i v j s e → Column j (length b) (part s e i) (part s e v) × (rises (part s e i) ≡ true)
   forwarding_asked g h =
-      let l : length b ≡ n = w.long ∙ w.whole in
-      (record { alike = part_alike w.valid h; below = λ q f. rw l (part-below w.valid h q f); here = omega arith }, rw h.rows (w.valid.pattern.rise j g))
+      let l : length b ≡ n = w.long ∙ w.whole in (
+        record { alike = part_alike w.valid h; below = λ q f. rw l (part-below w.valid h q f); here = omega arith },
+        rw h.rows (w.valid.pattern.rise j g),
+      )
 
   pub forwarding_turn : {s e : ℕ} {d : Float} {b' : List Float} → j < n → Handed p i v j s e → d ≡ value_at j (part s e i) (part s e v)
       → b' ≡ forward_at j d (part s e i) (part s e v) b → Forwarding n p i v b₀ b' (j + 1)
   forwarding_turn g h q e =
       let f = forward-step n n b h q e in
-      record { valid = w.valid; within = omega arith; long = ap length f ∙ length-forward_column (matrix n n p i v) j b ∙ w.long; whole = w.whole; is = f ∙ turns_more j (forward_column (matrix n n p i v)) b₀ w.is }
+      record {
+        valid = w.valid;
+        within = omega arith;
+        long = ap length f ∙ length-forward_column (matrix n n p i v) j b ∙ w.long;
+        whole = w.whole;
+        is = f ∙ turns_more j (forward_column (matrix n n p i v)) b₀ w.is;
+      }
 
   pub forwarding_end : n ≤ j → b ≡ forward (matrix n n p i v) b₀
   unfolding forward
   forwarding_end g = turns-end n j _ b₀ w.is w.within g
 
 -- ---- falling
-column-step : (m n : ℕ) {p i : List ℕ} {v : List Float} {j s e : ℕ} {d : Float} (b : List Float) → Handed p i v j s e → d ≡ value_at j (part s e i) (part s e v)
+column-step : (m n : ℕ) {p i : List ℕ} {v : List Float} {j s e : ℕ} {d : Float} (b : List Float) → Handed p i v j s e →
+    d ≡ value_at j (part s e i) (part s e v)
     → transposed_at j d (part s e i) (part s e v) b ≡ transposed_column (matrix m n p i v) j b
 unfolding transposed_column
 column-step m n b h q = rw (diagonal-is m n h q, h.rows, h.vals)
@@ -61,8 +71,10 @@ pub record Transposing (n : ℕ) (p i : List ℕ) (v b₀ b : List Float) (k : �
   pub whole : length b₀ ≡ n
   pub rest : Falls (transposed_column (matrix n n p i v)) n b₀ b k
 
-pub transposing_start : {n : ℕ} {p i : List ℕ} {v : List Float} → Valid (matrix n n p i v) → {b : List Float} → length b ≡ n → Transposing n p i v b b n
-transposing_start {n} {p} {i} {v} a {b} l = record { valid = a; long = refl; whole = l; rest = falls-start (transposed_column (matrix n n p i v)) n b }
+pub transposing_start : {n : ℕ} {p i : List ℕ} {v : List Float} → Valid (matrix n n p i v) → {b : List Float} → length b ≡ n →
+    Transposing n p i v b b n
+transposing_start {n} {p} {i} {v} a {b} l =
+    record { valid = a; long = refl; whole = l; rest = falls-start (transposed_column (matrix n n p i v)) n b }
 
 module _ {n : ℕ} {p i : List ℕ} {v b₀ b : List Float} {k : ℕ} (w : Transposing n p i v b₀ b k) (h : 0 < k) where
   pub k_in_n : k - 1 < n
@@ -74,7 +86,8 @@ module _ {n : ℕ} {p i : List ℕ} {v b₀ b : List Float} {k : ℕ} (w : Trans
         let l : length b ≡ n = w.long ∙ w.whole in
         record { alike = part_alike w.valid t; below = λ q g. rw l (part-below w.valid t q g); here = omega (arith, k_in_n) }
 
-    pub transposing_turn : {d : Float} {b' : List Float} → d ≡ value_at (k - 1) (part s e i) (part s e v) → b' ≡ transposed_at (k - 1) d (part s e i) (part s e v) b → Transposing n p i v b₀ b' (k - 1)
+    pub transposing_turn : {d : Float} {b' : List Float} → d ≡ value_at (k - 1) (part s e i) (part s e v) →
+        b' ≡ transposed_at (k - 1) d (part s e i) (part s e v) b → Transposing n p i v b₀ b' (k - 1)
     transposing_turn {d} {b'} q f = record {
       valid = w.valid;
       long = ap length f ∙ length-transposed_at (k - 1) d (part s e i) (part s e v) b ∙ w.long;

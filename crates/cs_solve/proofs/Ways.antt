@@ -44,7 +44,11 @@ module _ (a : Matrix) (m : ℕ) {r : ℕ} (e : r ≡ lowest (judged a)) where
 -- ---- after 1 to 5
 early_solve : (a : Matrix) (m : ℕ) → Early (judged_solve a m)
 unfolding judged_solve judged judged_pattern both
-early_solve a m = (omega arith, omega arith, (omega arith, omega arith, (omega arith, omega arith, (omega arith, omega arith, (omega arith, omega arith, omega arith)))))
+early_solve a m = (
+  omega arith,
+  omega arith,
+  (omega arith, omega arith, (omega arith, omega arith, (omega arith, omega arith, (omega arith, omega arith, omega arith)))),
+)
 
 -- what a matrix and a right side of m elements are that pass
 pub record Passed (n : ℕ) (p i : List ℕ) (v : List Float) (m : ℕ) : Type 0 where
@@ -69,7 +73,12 @@ module _ (a : Matrix) (old : List Float) (name : ℕ) (w : List Float) where
   unfolding number answer outputs
   at_check {r} e h =
       let l : r < 7 = omega (arith, below_7 (judged_solve a (length old)) (early_solve a (length old))) in
-      rw (← first (judged_solve a (length old)) ((10, some (lacking_columns a)) ∷ []) e h, ne_eqb r 10 (λ q. omega arith), ne_eqb r 0 h, ne_eqb r 11 (λ q. omega arith)) (refl, refl)
+      rw (
+        ← first (judged_solve a (length old)) ((10, some (lacking_columns a)) ∷ []) e h,
+        ne_eqb r 10 (λ q. omega arith),
+        ne_eqb r 0 h,
+        ne_eqb r 11 (λ q. omega arith),
+      ) (refl, refl)
 
   module _ {r : ℕ} (e : r ≡ lowest (judged_solve a (length old))) (h : r ≡ 0) where
     after : lowest ((10, some (lacking_columns a)) ∷ []) ≡ number a old
@@ -80,6 +89,7 @@ module _ (a : Matrix) (old : List Float) (name : ℕ) (w : List Float) where
     unfolding answer outputs
     at_10 {q} f g = let t = f.found g in rw (← after, t.0) ((λ k. record { number = 10; column = t.1 k }), refl)
 
-    pub at-end : {q : ℕ} {new : List Float} → Found a.pattern.ncols (lacking_columns a) name q → a.pattern.ncols ≤ q → new ≡ w → Answer (record { number = 0; column = 0 }) new
+    pub at-end : {q : ℕ} {new : List Float} → Found a.pattern.ncols (lacking_columns a) name q → a.pattern.ncols ≤ q → new ≡ w →
+        Answer (record { number = 0; column = 0 }) new
     unfolding answer outputs
     at-end f g u = rw (← after, f.none g) (refl, u)

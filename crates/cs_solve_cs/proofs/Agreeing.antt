@@ -19,7 +19,8 @@ use Rattle.lists.proofs.Bools.{le-or-lt, eq-or-ne, not-both}
 use Rattle.lists.proofs.Ordering.{lists_mean, member_lists}
 use Rattle.cs_matrix.specs.Matrix.{Matrix, matrix, pattern, vector, Valid, ValidVector, column}
 use Rattle.float_laws.specs.Zeros.{Zero, Alike}
-use Rattle.float_laws.proofs.Zeros.{alike_sym, zero_alike, alike_trans, mul-zero, mul_alike, div-zero, div_alike, sub_zero, sub_alike, is_zero, fits-zero}
+use Rattle.float_laws.proofs.Zeros.{alike_sym, zero_alike, alike_trans, mul-zero, mul_alike, div-zero, div_alike, sub_zero, sub_alike, is_zero}
+use Rattle.float_laws.proofs.Zeros.{fits-zero}
 use Rattle.cs_solve.specs.Diagonal.{diagonal, lacking}
 use Rattle.cs_solve.specs.Solve.{lower_at, forward_at, forward_column, forward}
 use Rattle.cs_solve_cs.specs.Agree.{Harmless, Agrees}
@@ -32,7 +33,8 @@ use Rattle.cs_solve_cs.proofs.Reaching.{reaches, below-is}
 
 -- ---- two folds side by side
 over-two : {S U : Type 0} (P : S → U → Type 0) (f : ℕ → Float → S → S) (g : ℕ → Float → U → U) (rows : List ℕ) (vals : List Float)
-    → ((k : ℕ) → k < length rows → (s : S) (u : U) → P s u → P (f (get_or rows k 0) (get_or vals k nan) s) (g (get_or rows k 0) (get_or vals k nan) u))
+    → ((k : ℕ) → k < length rows → (s : S) (u : U) → P s u →
+    P (f (get_or rows k 0) (get_or vals k nan) s) (g (get_or rows k 0) (get_or vals k nan) u))
     → (s : S) (u : U) → P s u → P (over f rows vals s) (over g rows vals u)
 unfolding over
 over-two P f g [] vals h s u p = p
@@ -48,7 +50,8 @@ value-at f [] q h = absurd (omega arith)
 value-at f (x ∷ l) zero h = refl
 value-at f (x ∷ l) (suc q) h = value-at f l q (omega arith)
 
-lower-is : (j : ℕ) (x : Float) (i : ℕ) (v : Float) (b : List Float) → j < i → lower_at j x i v b ≡ set b i (sub binary64 (get_or b i nan) (mul binary64 x v))
+lower-is : (j : ℕ) (x : Float) (i : ℕ) (v : Float) (b : List Float) → j < i → lower_at j x i v b
+    ≡ set b i (sub binary64 (get_or b i nan) (mul binary64 x v))
 unfolding lower_at
 lower-is j x i v b h = rw (lt-ltb j i h)
 
@@ -76,13 +79,23 @@ module _ (n : ℕ) (p i : List ℕ) (v : List Float) (bi : List ℕ) (bv : List 
     each : (k : ℕ) → k < n → Point k (get_or d k nan) (get_or s k nan)
 
   put_both : {d s : List Float} → Rel d s → (q : ℕ) → q < n → {x y : Float} → Point q x y → Rel (set d q x) (set s q y)
-  put_both {d} {s} r q h {x} {y} c = record { long_d = length-set d q x ∙ r.long_d; long_s = length-set s q y ∙ r.long_s; each = λ k l. ⊎_elim (λ (e : k ≡ q). here k e) (λ (e : k ≡ q → ⊥). rw (get_or-set_other d q k x nan e, get_or-set_other s q k y nan e) (r.each k l)) (eq-or-ne k q) }
+  put_both {d} {s} r q h {x} {y} c = record {
+    long_d = length-set d q x ∙ r.long_d;
+    long_s = length-set s q y ∙ r.long_s;
+    each =
+        λ k l. ⊎_elim (λ (e : k ≡ q). here k e) (λ (e : k ≡ q → ⊥). rw (get_or-set_other d q k x nan e, get_or-set_other s q k y nan e) (r.each k l))
+        (eq-or-ne k q);
+  }
     where
       here : (k : ℕ) → k ≡ q → Point k (get_or (set d q x) k nan) (get_or (set s q y) k nan)
       here k e = rw (e, get_or-set_same d q x nan (omega (arith, r.long_d)), get_or-set_same s q y nan (omega (arith, r.long_s))) c
 
   put-left : {d s : List Float} → Rel d s → (q : ℕ) → q < n → {x : Float} → Point q x (get_or s q nan) → Rel (set d q x) s
-  put-left {d} {s} r q h {x} c = record { long_d = length-set d q x ∙ r.long_d; long_s = r.long_s; each = λ k l. ⊎_elim (λ (e : k ≡ q). here k e) (λ (e : k ≡ q → ⊥). rw (get_or-set_other d q k x nan e) (r.each k l)) (eq-or-ne k q) }
+  put-left {d} {s} r q h {x} c = record {
+    long_d = length-set d q x ∙ r.long_d;
+    long_s = r.long_s;
+    each = λ k l. ⊎_elim (λ (e : k ≡ q). here k e) (λ (e : k ≡ q → ⊥). rw (get_or-set_other d q k x nan e) (r.each k l)) (eq-or-ne k q);
+  }
     where
       here : (k : ℕ) → k ≡ q → Point k (get_or (set d q x) k nan) (get_or s k nan)
       here k e = rw (e, get_or-set_same d q x nan (omega (arith, r.long_d))) c
@@ -105,21 +118,31 @@ module _ (n : ℕ) (p i : List ℕ) (v : List Float) (bi : List ℕ) (bv : List 
           let y = div binary64 (get_or s j nan) e in
           let al = div_alike (get_or d j nan) (get_or s j nan) e (c.on t) in
           over-two Rel (lower_at j x) (lower_at j y) rows vals (lower-both x y al) (set d j x) (set s j y)
-          (put_both r j h (record { fits_d = div-fits binary64 (get_or d j nan) e; fits_s = div-fits binary64 (get_or s j nan) e; on = λ u. al; off = λ u. absurd (not-both (R j) t u) }))
+          (put_both r j h (record {
+            fits_d = div-fits binary64 (get_or d j nan) e;
+            fits_s = div-fits binary64 (get_or s j nan) e;
+            on = λ u. al;
+            off = λ u. absurd (not-both (R j) t u);
+          }))
         where
-          lower-both : (x y : Float) → Alike x y → (k : ℕ) → k < length rows → (d s : List Float) → Rel d s → Rel (lower_at j x (get_or rows k 0) (get_or vals k nan) d) (lower_at j y (get_or rows k 0) (get_or vals k nan) s)
-          lower-both x y al k l d s r = ⊎_elim (λ (g : get_or rows k 0 ≤ j). not g) (λ (g : j < get_or rows k 0). yes g) (le-or-lt (get_or rows k 0) j)
+          lower-both : (x y : Float) → Alike x y → (k : ℕ) → k < length rows → (d s : List Float) → Rel d s →
+              Rel (lower_at j x (get_or rows k 0) (get_or vals k nan) d) (lower_at j y (get_or rows k 0) (get_or vals k nan) s)
+          lower-both x y al k l d s r = ⊎_elim (λ (g : get_or rows k 0 ≤ j). not g) (λ (g : j < get_or rows k 0). yes g)
+              (le-or-lt (get_or rows k 0) j)
             where
-              not : get_or rows k 0 ≤ j → Rel (lower_at j x (get_or rows k 0) (get_or vals k nan) d) (lower_at j y (get_or rows k 0) (get_or vals k nan) s)
+              not : get_or rows k 0 ≤ j → Rel (lower_at j x (get_or rows k 0) (get_or vals k nan) d)
+                  (lower_at j y (get_or rows k 0) (get_or vals k nan) s)
               not g = rw (lower-not j x (get_or rows k 0) (get_or vals k nan) d g, lower-not j y (get_or rows k 0) (get_or vals k nan) s g) r
 
-              yes : j < get_or rows k 0 → Rel (lower_at j x (get_or rows k 0) (get_or vals k nan) d) (lower_at j y (get_or rows k 0) (get_or vals k nan) s)
-              yes g = rw (lower-is j x (get_or rows k 0) (get_or vals k nan) d g, lower-is j y (get_or rows k 0) (get_or vals k nan) s g) (put_both r (get_or rows k 0) inside (record {
-                fits_d = sub-fits binary64 (get_or d (get_or rows k 0) nan) (mul binary64 x (get_or vals k nan));
-                fits_s = sub-fits binary64 (get_or s (get_or rows k 0) nan) (mul binary64 y (get_or vals k nan));
-                on = λ u. sub_alike _ _ _ _ c.fits_s (mul-fits binary64 x (get_or vals k nan)) (c.on u) (mul_alike x y (get_or vals k nan) al);
-                off = λ u. absurd (not-both (R (get_or rows k 0)) (hit_stored (pattern n n p i) bi j (get_or rows k 0) t g m) u);
-              }))
+              yes : j < get_or rows k 0 → Rel (lower_at j x (get_or rows k 0) (get_or vals k nan) d)
+                  (lower_at j y (get_or rows k 0) (get_or vals k nan) s)
+              yes g = rw (lower-is j x (get_or rows k 0) (get_or vals k nan) d g, lower-is j y (get_or rows k 0) (get_or vals k nan) s g)
+                  (put_both r (get_or rows k 0) inside (record {
+                    fits_d = sub-fits binary64 (get_or d (get_or rows k 0) nan) (mul binary64 x (get_or vals k nan));
+                    fits_s = sub-fits binary64 (get_or s (get_or rows k 0) nan) (mul binary64 y (get_or vals k nan));
+                    on = λ u. sub_alike _ _ _ _ c.fits_s (mul-fits binary64 x (get_or vals k nan)) (c.on u) (mul_alike x y (get_or vals k nan) al);
+                    off = λ u. absurd (not-both (R (get_or rows k 0)) (hit_stored (pattern n n p i) bi j (get_or rows k 0) t g m) u);
+                  }))
                 where
                   m : Memᴰ (get_or rows k 0) rows
                   m = member_at rows k l
@@ -139,10 +162,17 @@ module _ (n : ℕ) (p i : List ℕ) (v : List Float) (bi : List ℕ) (bv : List 
           let x = div binary64 (get_or d j nan) e in
           let z = div-zero (get_or d j nan) e (c.off t) hm.there hm.number in
           over-one (λ d. Rel d s) (lower_at j x) rows vals (lower-one x z) (set d j x)
-          (put-left r j h (record { fits_d = div-fits binary64 (get_or d j nan) e; fits_s = c.fits_s; on = λ u. absurd (not-both (R j) u t); off = λ u. z }))
+          (put-left r j h (record {
+            fits_d = div-fits binary64 (get_or d j nan) e;
+            fits_s = c.fits_s;
+            on = λ u. absurd (not-both (R j) u t);
+            off = λ u. z;
+          }))
         where
-          lower-one : (x : Float) → Zero x → (k : ℕ) → k < length rows → (d : List Float) → Rel d s → Rel (lower_at j x (get_or rows k 0) (get_or vals k nan) d) s
-          lower-one x z k l d r = ⊎_elim (λ (g : get_or rows k 0 ≤ j). rw (lower-not j x (get_or rows k 0) (get_or vals k nan) d g) r) (λ (g : j < get_or rows k 0). yes g) (le-or-lt (get_or rows k 0) j)
+          lower-one : (x : Float) → Zero x → (k : ℕ) → k < length rows → (d : List Float) → Rel d s →
+              Rel (lower_at j x (get_or rows k 0) (get_or vals k nan) d) s
+          lower-one x z k l d r = ⊎_elim (λ (g : get_or rows k 0 ≤ j). rw (lower-not j x (get_or rows k 0) (get_or vals k nan) d g) r)
+              (λ (g : j < get_or rows k 0). yes g) (le-or-lt (get_or rows k 0) j)
             where
               yes : j < get_or rows k 0 → Rel (lower_at j x (get_or rows k 0) (get_or vals k nan) d) s
               yes g = rw (lower-is j x (get_or rows k 0) (get_or vals k nan) d g) (put-left r (get_or rows k 0) inside (record {
@@ -159,15 +189,18 @@ module _ (n : ℕ) (p i : List ℕ) (v : List Float) (bi : List ℕ) (bv : List 
                   c = r.each (get_or rows k 0) inside
 
                   al : Alike (sub binary64 (get_or d (get_or rows k 0) nan) (mul binary64 x (get_or vals k nan))) (get_or d (get_or rows k 0) nan)
-                  al = sub_zero (get_or d (get_or rows k 0) nan) (mul binary64 x (get_or vals k nan)) c.fits_d (mul-zero x (get_or vals k nan) z (hm.values k l g))
+                  al = sub_zero (get_or d (get_or rows k 0) nan) (mul binary64 x (get_or vals k nan)) c.fits_d
+                      (mul-zero x (get_or vals k nan) z (hm.values k l g))
 
     -- all columns
-    columns : ((j : ℕ) → j < n → R j ≡ false → Harmless a j) → (m : ℕ) → m ≤ n → (x : List Float) → Rel x x → Rel (turns m (forward_column a) x) (along (forward_column a) (chosen m R) x)
+    columns : ((j : ℕ) → j < n → R j ≡ false → Harmless a j) → (m : ℕ) → m ≤ n → (x : List Float) → Rel x x →
+        Rel (turns m (forward_column a) x) (along (forward_column a) (chosen m R) x)
     unfolding turns chosen along
     columns hm zero l x r = r
     columns hm (suc m) l x r = go (R m) refl (columns hm m (omega arith) x r)
       where
-        go : (t : Bool) → R m ≡ t → Rel (turns m (forward_column a) x) (along (forward_column a) (chosen m R) x) → Rel (forward_column a m (turns m (forward_column a) x)) (along (forward_column a) (chosen m R ++ cond t (m ∷ []) []) x)
+        go : (t : Bool) → R m ≡ t → Rel (turns m (forward_column a) x) (along (forward_column a) (chosen m R) x) →
+            Rel (forward_column a m (turns m (forward_column a) x)) (along (forward_column a) (chosen m R ++ cond t (m ∷ []) []) x)
         go true e r = rw (along-more (forward_column a) (chosen m R) m x) (on_step m (omega arith) e _ _ r)
         go false e r = rw (append-nil (chosen m R)) (off_step m (omega arith) e (hm m (omega arith) e) _ _ r)
 
@@ -175,10 +208,27 @@ module _ (n : ℕ) (p i : List ℕ) (v : List Float) (bi : List ℕ) (bv : List 
       -- the right side
       start : Rel (right (vector n bi bv)) (right (vector n bi bv))
       unfolding right of_bits
-      start = over-one (λ x. Rel x x) put_at bi bv put (replicate n none) (record { long_d = length-replicate n none; long_s = length-replicate n none; each = λ k l. rw (get_or-replicate n k none nan l) (record { fits_d = fits-zero false; fits_s = fits-zero false; on = λ u. inl refl; off = λ u. is_zero false }) })
+      start = over-one (λ x. Rel x x) put_at bi bv put (replicate n none)
+          (record {
+            long_d = length-replicate n none;
+            long_s = length-replicate n none;
+            each =
+                λ k l. rw (get_or-replicate n k none nan l) (record {
+                  fits_d = fits-zero false;
+                  fits_s = fits-zero false;
+                  on = λ u. inl refl;
+                  off = λ u. is_zero false;
+                });
+          })
         where
-          put : (k : ℕ) → k < length bi → (x : List Float) → Rel x x → Rel (put_at (get_or bi k 0) (get_or bv k nan) x) (put_at (get_or bi k 0) (get_or bv k nan) x)
-          put k l x r = put_both r (get_or bi k 0) (side.below k l) (record { fits_d = known k; fits_s = known k; on = λ u. inl refl; off = λ u. absurd (not-both (R (get_or bi k 0)) (hit_row (pattern n n p i) bi (get_or bi k 0) (member_at bi k l)) u) })
+          put : (k : ℕ) → k < length bi → (x : List Float) → Rel x x →
+              Rel (put_at (get_or bi k 0) (get_or bv k nan) x) (put_at (get_or bi k 0) (get_or bv k nan) x)
+          put k l x r = put_both r (get_or bi k 0) (side.below k l) (record {
+            fits_d = known k;
+            fits_s = known k;
+            on = λ u. inl refl;
+            off = λ u. absurd (not-both (R (get_or bi k 0)) (hit_row (pattern n n p i) bi (get_or bi k 0) (member_at bi k l)) u);
+          })
 
       whole : ((j : ℕ) → j < n → R j ≡ false → Harmless a j) → Rel (forward a (right (vector n bi bv))) (steps a (vector n bi bv))
       unfolding forward steps reached
@@ -194,7 +244,8 @@ module _ (n : ℕ) (p i : List ℕ) (v : List Float) (bi : List ℕ) (bv : List 
       unlisted k l h = go (R k) refl
         where
           go : (t : Bool) → R k ≡ t → t ≡ false
-          go true e = absurd (not-both (lists k (reached (pattern n n p i) bi)) (member_lists k (reached (pattern n n p i) bi) (rw (below-is (pattern n n p i) bi n) (member_chosen R n k l e))) h)
+          go true e = absurd (not-both (lists k (reached (pattern n n p i) bi))
+              (member_lists k (reached (pattern n n p i) bi) (rw (below-is (pattern n n p i) bi n) (member_chosen R n k l e))) h)
           go false e = refl
 
       not_listed : (k : ℕ) → R k ≡ false → lists k (reached (pattern n n p i) bi) ≡ false
@@ -210,6 +261,7 @@ module _ (n : ℕ) (p i : List ℕ) (v : List Float) (bi : List ℕ) (bv : List 
           let r = whole (λ j l t. hm j l (not_listed j t)) in
           let l = reached (pattern n n p i) bi in
           record {
-            on = λ q g. let m = listed (get_or l q 0) (member_at l q g) in rw (value-at (λ (j : ℕ). get_or (steps a (vector n bi bv)) j nan) l q g) ((r.each (get_or l q 0) m.0).on m.1);
+            on = λ q g. let m = listed (get_or l q 0) (member_at l q g) in rw (value-at (λ (j : ℕ). get_or (steps a (vector n bi bv)) j nan) l q g)
+                ((r.each (get_or l q 0) m.0).on m.1);
             off = λ k g t. (r.each k g).off (unlisted k g t);
           }

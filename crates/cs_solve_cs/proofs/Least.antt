@@ -22,7 +22,8 @@ use Rattle.cs_solve_cs.proofs.Reaching.{reaches, below-is}
 -- a member of a list whose places are all below n
 pub member_below : (n : ℕ) (l : List ℕ) → ((k : ℕ) → k < length l → get_or l k 0 < n) → (x : ℕ) → Memᴰ x l → x < n
 member_below n [] h x m = absurd (Memᴰ.not-nil m)
-member_below n (y ∷ l) h x m = ⊎_elim (λ (e : x ≡ y). omega (arith, h 0 (omega arith))) (λ r. member_below n l (λ k g. h (suc k) (omega arith)) x r) (Memᴰ.cases_cons m)
+member_below n (y ∷ l) h x m = ⊎_elim (λ (e : x ≡ y). omega (arith, h 0 (omega arith))) (λ r. member_below n l (λ k g. h (suc k) (omega arith)) x r)
+    (Memᴰ.cases_cons m)
 
 -- a row of a column is below the row count
 pub row_below : {a : Pattern} → ValidPattern a → (j k : ℕ) → j < a.ncols → Memᴰ k (column a.p j a.i) → k < a.nrows
@@ -49,7 +50,8 @@ module _ (a : Pattern) (rows : List ℕ) where
   is-reached zero k g h = absurd (omega arith)
   is-reached (suc b) k g h = go (lists k rows) refl h (is-reached b)
     where
-      go : (t : Bool) → lists k rows ≡ t → (t || some_of (λ j. stores a j k) (reached_below a rows k)) ≡ true → ((j : ℕ) → j < b → reaches a rows j ≡ true → Reached a rows j) → Reached a rows k
+      go : (t : Bool) → lists k rows ≡ t → (t || some_of (λ j. stores a j k) (reached_below a rows k)) ≡ true →
+          ((j : ℕ) → j < b → reaches a rows j ≡ true → Reached a rows j) → Reached a rows k
       go true e h f = given (lists_mean k rows e)
       go false e h f =
           let o = some_of-find (λ j. stores a j k) (reached_below a rows k) h in
@@ -64,9 +66,11 @@ module _ (a : Pattern) (rows : List ℕ) where
 
   pub hit_stored : (j k : ℕ) → reaches a rows j ≡ true → j < k → Memᴰ k (column a.p j a.i) → reaches a rows k ≡ true
   unfolding touched
-  hit_stored j k r h m = go (lists k rows) (some_of_member (λ j. stores a j k) (reached_below a rows k) (rw (below-is a rows k) (member_chosen (reaches a rows) k j h r)) (stores-is j k h m))
+  hit_stored j k r h m = go (lists k rows) (some_of_member (λ j. stores a j k) (reached_below a rows k)
+      (rw (below-is a rows k) (member_chosen (reaches a rows) k j h r)) (stores-is j k h m))
     where
-      go : (t : Bool) → some_of (λ j. stores a j k) (reached_below a rows k) ≡ true → (t || some_of (λ j. stores a j k) (reached_below a rows k)) ≡ true
+      go : (t : Bool) → some_of (λ j. stores a j k) (reached_below a rows k) ≡ true → (t || some_of (λ j. stores a j k) (reached_below a rows k))
+          ≡ true
       go true e = refl
       go false e = e
 

@@ -61,7 +61,8 @@ module _ (a : Pattern) (rows : List ℕ) where
 
   touched-more : (js : List ℕ) (m k : ℕ) → touched a rows (js ++ (m ∷ [])) k ≡ (stores a m k || touched a rows js k)
   unfolding touched some_of
-  touched-more js m k = ap (λ (t : Bool). lists k rows || t) (some_of-append (λ j. stores a j k) js (m ∷ [])) ∙ go (lists k rows) (some_of (λ j. stores a j k) js) (stores a m k)
+  touched-more js m k = ap (λ (t : Bool). lists k rows || t) (some_of-append (λ j. stores a j k) js (m ∷ [])) ∙
+      go (lists k rows) (some_of (λ j. stores a j k) js) (stores a m k)
     where
       go : (l s t : Bool) → (l || (s || (t || false))) ≡ (t || (l || s))
       go true s true = refl
@@ -94,7 +95,8 @@ pub record Reaching (n : ℕ) (p i : List ℕ) (v : List Float) (rows w : List �
   pub lacks : FoundIn n (lacking (matrix n n p i v)) (reached_below (pattern n n p i) rows m) least
   pub each : (k : ℕ) → k < n → marked w k ≡ touched (pattern n n p i) rows (reached_below (pattern n n p i) rows m) k
 
-pub reaching_start : {n : ℕ} {p i : List ℕ} {v : List Float} {rows w w' : List ℕ} → Valid (matrix n n p i v) → w ≡ replicate n 0 → w' ≡ mark_all 0 rows w → Reaching n p i v rows w' 0 n 0
+pub reaching_start : {n : ℕ} {p i : List ℕ} {v : List Float} {rows w w' : List ℕ} → Valid (matrix n n p i v) → w ≡ replicate n 0 →
+    w' ≡ mark_all 0 rows w → Reaching n p i v rows w' 0 n 0
 unfolding reached_below touched some_of
 reaching_start {n} {p} {i} {v} {rows} {w} {w'} a e q = record {
   valid = a;
@@ -134,32 +136,45 @@ module _ {n : ℕ} {p i : List ℕ} {v : List Float} {rows w : List ℕ} {count 
 
   module _ {s e : ℕ} {d : Float} (b : Handed p i v m s e) (q : d ≡ value_at m (part s e i) (part s e v)) where
     pub seen_new : n ≤ least → eq d none ≡ true → Seen m
-    seen_new t u = found_new (lacking (matrix n n p i v)) (reached_below a rows m) r.lacks m (lacking-is (matrix n n p i v) m (diagonal-is n n b q) u) t h
+    seen_new t u = found_new (lacking (matrix n n p i v)) (reached_below a rows m) r.lacks m
+        (lacking-is (matrix n n p i v) m (diagonal-is n n b q) u) t h
 
     pub seen_not : eq d none ≡ false → Seen least
     seen_not u = found-not (lacking (matrix n n p i v)) (reached_below a rows m) r.lacks m (lacking-is (matrix n n p i v) m (diagonal-is n n b q) u)
 
-  pub reaching_on : {s e x : ℕ} {w' : List ℕ} → (get_or w m 0 ≡ 0 → ⊥) → Handed p i v m s e → Seen x → w' ≡ mark_all (m + 1) (part s e i) w → Reaching n p i v rows w' (count + 1) x (m + 1)
+  pub reaching_on : {s e x : ℕ} {w' : List ℕ} → (get_or w m 0 ≡ 0 → ⊥) → Handed p i v m s e → Seen x → w' ≡ mark_all (m + 1) (part s e i) w →
+      Reaching n p i v rows w' (count + 1) x (m + 1)
   reaching_on {s} {e} {x} {w'} t b f q = record {
     valid = r.valid;
     within = omega arith;
     long = ap length q ∙ length-mark_all (m + 1) (part s e i) w ∙ r.long;
     counted = rw (below_more a rows m (hit t), length-append (reached_below a rows m) (m ∷ []), ← r.counted);
     lacks = rw (below_more a rows m (hit t)) f;
-    each = λ k l. ap (λ (u : List ℕ). marked u k) q ∙ marked_all (m + 1) (part s e i) w k (omega (arith, r.long)) ∙ ap (λ (u : Bool). (leb (m + 1) k && lists k (part s e i)) || u) (r.each k l) ∙ store k;
+    each = λ k l. ap (λ (u : List ℕ). marked u k) q ∙ marked_all (m + 1) (part s e i) w k (omega (arith, r.long)) ∙
+        ap (λ (u : Bool). (leb (m + 1) k && lists k (part s e i)) || u) (r.each k l) ∙ store k;
   }
     where
-      store : (k : ℕ) → ((leb (m + 1) k && lists k (part s e i)) || touched a rows (reached_below a rows m) k) ≡ touched a rows (reached_below a rows (m + 1)) k
+      store : (k : ℕ) → ((leb (m + 1) k && lists k (part s e i)) || touched a rows (reached_below a rows m) k)
+          ≡ touched a rows (reached_below a rows (m + 1)) k
       store k = rw (below_more a rows m (hit t), touched-more a rows (reached_below a rows m) m k, b.rows) (go k)
         where
-          go : (k : ℕ) → ((leb (m + 1) k && lists k (column p m i)) || touched a rows (reached_below a rows m) k) ≡ (stores a m k || touched a rows (reached_below a rows m) k)
+          go : (k : ℕ) → ((leb (m + 1) k && lists k (column p m i)) || touched a rows (reached_below a rows m) k)
+              ≡ (stores a m k || touched a rows (reached_below a rows m) k)
           go k = rw (stores-is a rows m k)
 
   pub reaching_off : get_or w m 0 ≡ 0 → Reaching n p i v rows w count least (m + 1)
-  reaching_off t = let e = below-same a rows m (miss t) in record { valid = r.valid; within = omega arith; long = r.long; counted = rw e r.counted; lacks = rw e r.lacks; each = λ k l. rw e (r.each k l) }
+  reaching_off t = let e = below-same a rows m (miss t) in record {
+    valid = r.valid;
+    within = omega arith;
+    long = r.long;
+    counted = rw e r.counted;
+    lacks = rw e r.lacks;
+    each = λ k l. rw e (r.each k l);
+  }
 
 pub reaching_end : {n : ℕ} {p i : List ℕ} {v : List Float} {rows w : List ℕ} {count least m : ℕ} → Reaching n p i v rows w count least m → n ≤ m
-    → (marks n w ≡ reached (pattern n n p i) rows) × (count ≡ length (reached (pattern n n p i) rows)) × FoundIn n (lacking (matrix n n p i v)) (reached (pattern n n p i) rows) least
+    → (marks n w ≡ reached (pattern n n p i) rows) × (count ≡ length (reached (pattern n n p i) rows)) ×
+    FoundIn n (lacking (matrix n n p i v)) (reached (pattern n n p i) rows) least
 unfolding reached marks
 reaching_end {n} {p} {i} {v} {rows} {w} {count} {least} {m} r h =
     let a = pattern n n p i in

@@ -43,7 +43,8 @@ pub record Putting (rows : List ℕ) (vals x₀ x : List Float) (k : ℕ) : Type
 pub putting_start : (rows : List ℕ) (vals x : List Float) → Putting rows vals x x 0
 putting_start rows vals x = record { long = refl; rest = paired-start put_at rows vals x }
 
-module _ {rows : List ℕ} {vals x₀ x : List Float} {k : ℕ} (v : Putting rows vals x₀ x k) (g : k < length rows) (h : k < length vals) {r : ℕ} (e : r ≡ get_or rows k 0) where
+module _ {rows : List ℕ} {vals x₀ x : List Float} {k : ℕ} (v : Putting rows vals x₀ x k) (g : k < length rows) (h : k < length vals) {r : ℕ}
+    (e : r ≡ get_or rows k 0) where
   pub putting_set : Putting rows vals x₀ (set x r (get_or vals k nan)) (k + 1)
   putting_set = record { long = length-set x r (get_or vals k nan) ∙ v.long; rest = paired-turn put_at rows vals 0 nan v.rest g h (rw e) }
 
@@ -59,14 +60,16 @@ module _ (j k : ℕ) (h : k < j) where
   lower-keeps x i v b =
       ⊎_elim
       (λ (g : i ≤ j). sym (ap at_k (lower-above j x i v b g)))
-      (λ (g : j < i). sym (ap at_k (lower-set j x i v b g)) ∙ get_or-set_other b i k (sub binary64 (get_or b i nan) (mul binary64 x v)) nan (λ (e : k ≡ i). omega arith))
+      (λ (g : j < i). sym (ap at_k (lower-set j x i v b g)) ∙ get_or-set_other b i k (sub binary64 (get_or b i nan) (mul binary64 x v)) nan
+      (λ (e : k ≡ i). omega arith))
       (le-or-lt i j)
 
   forward-keeps : (d : Float) (rows : List ℕ) (vals b : List Float) → at_k (forward_at j d rows vals b) ≡ at_k b
   unfolding forward_at
   forward-keeps d rows vals b =
       let x = div binary64 (get_or b j nan) d in
-      over-keeps at_k (lower_at j x) rows vals (λ i v c m. lower-keeps x i v c) (set b j x) ∙ get_or-set_other b j k x nan (λ (e : k ≡ j). omega arith)
+      over-keeps at_k (lower_at j x) rows vals (λ i v c m. lower-keeps x i v c) (set b j x) ∙
+      get_or-set_other b j k x nan (λ (e : k ≡ j). omega arith)
 
   pub column-keeps : (a : Matrix) (b : List Float) → at_k (forward_column a j b) ≡ at_k b
   unfolding forward_column
@@ -96,7 +99,8 @@ module _ {n : ℕ} {p i : List ℕ} {v : List Float} {w : List ℕ} {x₀ x : Li
   pub forwarding_off : get_or w j 0 ≡ 0 → Forwarding n p i v w x₀ x (j + 1)
   forwarding_off t = record { within = omega arith; long = f.long; is = rw (chosen-same j (marked w) (not-marked w j t)) f.is }
 
-pub forwarding_end : {n : ℕ} {p i : List ℕ} {v : List Float} {w : List ℕ} {x₀ x : List Float} {j : ℕ} → Forwarding n p i v w x₀ x j → n ≤ j → x ≡ along (forward_column (matrix n n p i v)) (marks n w) x₀
+pub forwarding_end : {n : ℕ} {p i : List ℕ} {v : List Float} {w : List ℕ} {x₀ x : List Float} {j : ℕ} → Forwarding n p i v w x₀ x j → n ≤ j →
+    x ≡ along (forward_column (matrix n n p i v)) (marks n w) x₀
 unfolding marks
 forwarding_end {n} {j = j} f h = let e : j ≡ n = omega (arith, f.within) in let q = f.is in rw e at q
 
@@ -105,7 +109,8 @@ abbrev pub values_of : List Float → List ℕ → List Float
 values_of x l = map (λ (j : ℕ). get_or x j nan) l
 
 -- what was gathered of the numbers below j stays where no value below j changes
-values-kept : (j : ℕ) (f : ℕ → Bool) (x y : List Float) → ((k : ℕ) → k < j → get_or y k nan ≡ get_or x k nan) → values_of y (chosen j f) ≡ values_of x (chosen j f)
+values-kept : (j : ℕ) (f : ℕ → Bool) (x y : List Float) → ((k : ℕ) → k < j → get_or y k nan ≡ get_or x k nan) → values_of y (chosen j f)
+    ≡ values_of x (chosen j f)
 values-kept j f x y h = go (chosen j f) (λ k m. h k (chosen_member f j k m).below)
   where
     go : (l : List ℕ) → ((k : ℕ) → Memᴰ k l → get_or y k nan ≡ get_or x k nan) → values_of y l ≡ values_of x l
@@ -123,7 +128,8 @@ pub gathering_start : {n : ℕ} {w : List ℕ} {x : List Float} {xi : List ℕ} 
 unfolding chosen
 gathering_start {xi = xi} {xv = xv} ask = record { ask = ask; within = omega arith; count = refl; rows = onto-none xi; vals = onto-none xv }
 
-module _ {n : ℕ} {w : List ℕ} {x : List Float} {xi₀ : List ℕ} {xv₀ : List Float} {xi : List ℕ} {xv : List Float} {at j : ℕ} (g : Gathering n w x xi₀ xv₀ xi xv at j) where
+module _ {n : ℕ} {w : List ℕ} {x : List Float} {xi₀ : List ℕ} {xv₀ : List Float} {xi : List ℕ} {xv : List Float} {at j : ℕ}
+    (g : Gathering n w x xi₀ xv₀ xi xv at j) where
   abbrev l : List ℕ
   l = chosen j (marked w)
 
@@ -162,7 +168,8 @@ module _ {n : ℕ} {w : List ℕ} {x : List Float} {xi₀ : List ℕ} {xv₀ : L
           within = omega arith;
           count = rw (more, length-append l (j ∷ []), ← g.count);
           rows = rw (more, g.rows, g.count) (onto-more xi₀ l j (omega (arith, room, g.ask.in_i)));
-          vals = rw (more, map_more (λ (k : ℕ). get_or x k nan) l j, g.vals, g.count, ← len) (onto-more xv₀ l' (get_or x j nan) (omega (arith, room, g.ask.in_v)));
+          vals = rw (more, map_more (λ (k : ℕ). get_or x k nan) l j, g.vals, g.count, ← len)
+              (onto-more xv₀ l' (get_or x j nan) (omega (arith, room, g.ask.in_v)));
         }
 
   pub gathering_off : j < n → get_or w j 0 ≡ 0 → Gathering n w x xi₀ xv₀ xi xv at (j + 1)
@@ -175,23 +182,28 @@ module _ {n : ℕ} {w : List ℕ} {x : List Float} {xi₀ : List ℕ} {xv₀ : L
   gathering_end h = let e : j ≡ n = omega (arith, g.within) in let a = g.rows in let b = g.vals in (rw e at a, rw e at b)
 
 -- ---- both in one loop
-pub record Serving (n : ℕ) (p i : List ℕ) (v : List Float) (w : List ℕ) (x₀ : List Float) (xi₀ : List ℕ) (xv₀ : List Float) (x : List Float) (xi : List ℕ) (xv : List Float) (at j : ℕ) : Type 0 where
+pub record Serving (n : ℕ) (p i : List ℕ) (v : List Float) (w : List ℕ) (x₀ : List Float) (xi₀ : List ℕ) (xv₀ : List Float) (x : List Float)
+    (xi : List ℕ) (xv : List Float) (at j : ℕ) : Type 0 where
   pub valid : Valid (matrix n n p i v)
   pub steps : Forwarding n p i v w x₀ x j
   pub out : Gathering n w x xi₀ xv₀ xi xv at j
 
-pub serving_start : {n : ℕ} {p i : List ℕ} {v : List Float} {w : List ℕ} {x : List Float} {xi : List ℕ} {xv : List Float} → Valid (matrix n n p i v) → Room n w x xi xv → Serving n p i v w x xi xv x xi xv 0 0
+pub serving_start : {n : ℕ} {p i : List ℕ} {v : List Float} {w : List ℕ} {x : List Float} {xi : List ℕ} {xv : List Float} → Valid (matrix n n p i v)
+    → Room n w x xi xv → Serving n p i v w x xi xv x xi xv 0 0
 serving_start {n} {p} {i} {v} {w} {x} a r = record { valid = a; steps = forwarding_start n p i v w x; out = gathering_start r }
 
-module _ {n : ℕ} {p i : List ℕ} {v : List Float} {w : List ℕ} {x₀ : List Float} {xi₀ : List ℕ} {xv₀ : List Float} {x : List Float} {xi : List ℕ} {xv : List Float} {at j : ℕ} (s : Serving n p i v w x₀ xi₀ xv₀ x xi xv at j) where
-  pub serving_end : n ≤ j → (xi ≡ onto xi₀ (marks n w)) × (xv ≡ onto xv₀ (values_of (along (forward_column (matrix n n p i v)) (marks n w) x₀) (marks n w)))
+module _ {n : ℕ} {p i : List ℕ} {v : List Float} {w : List ℕ} {x₀ : List Float} {xi₀ : List ℕ} {xv₀ : List Float} {x : List Float} {xi : List ℕ}
+    {xv : List Float} {at j : ℕ} (s : Serving n p i v w x₀ xi₀ xv₀ x xi xv at j) where
+  pub serving_end : n ≤ j → (xi ≡ onto xi₀ (marks n w)) ×
+      (xv ≡ onto xv₀ (values_of (along (forward_column (matrix n n p i v)) (marks n w) x₀) (marks n w)))
   serving_end h = let g = gathering_end s.out h in (g.0, g.1 ∙ (rw (forwarding_end s.steps h)))
 
   module _ (h : j < n) where
     pub serving_off : get_or w j 0 ≡ 0 → Serving n p i v w x₀ xi₀ xv₀ x xi xv at (j + 1)
     serving_off t = record { valid = s.valid; steps = forwarding_off s.steps h t; out = gathering_off s.out h t }
 
-    module _ {b e : ℕ} {d : Float} {y : List Float} (c : Handed p i v j b e) (q : d ≡ value_at j (part b e i) (part b e v)) (u : y ≡ forward_at j d (part b e i) (part b e v) x) where
+    module _ {b e : ℕ} {d : Float} {y : List Float} (c : Handed p i v j b e) (q : d ≡ value_at j (part b e i) (part b e v))
+        (u : y ≡ forward_at j d (part b e i) (part b e v) x) where
       stepped : y ≡ forward_column (matrix n n p i v) j x
       stepped = forward-step n n x c q u
 
@@ -202,7 +214,13 @@ module _ {n : ℕ} {p i : List ℕ} {v : List Float} {w : List ℕ} {x₀ : List
           let r = g.ask in
           let f = values-kept j (marked w) x y (λ k l. ap (λ (z : List Float). get_or z k nan) stepped ∙ column-keeps j k l (matrix n n p i v) x) in
           record {
-            ask = record { small = r.small; w_long = r.w_long; x_long = omega (arith, r.x_long, ap length stepped, length-forward_column (matrix n n p i v) j x); in_i = r.in_i; in_v = r.in_v };
+            ask = record {
+              small = r.small;
+              w_long = r.w_long;
+              x_long = omega (arith, r.x_long, ap length stepped, length-forward_column (matrix n n p i v) j x);
+              in_i = r.in_i;
+              in_v = r.in_v;
+            };
             within = g.within;
             count = g.count;
             rows = g.rows;
@@ -219,5 +237,6 @@ module _ {n : ℕ} {p i : List ℕ} {v : List Float} {w : List ℕ} {x₀ : List
         pub out_v : at < length xv
         out_v = at-in_v moved h t
 
-        pub serving_on : {xi' : List ℕ} {xv' : List Float} {at' : ℕ} → (at' ≡ at + 1) × (xi' ≡ set xi at j) × (xv' ≡ set xv at (get_or y j nan)) → Serving n p i v w x₀ xi₀ xv₀ y xi' xv' at' (j + 1)
+        pub serving_on : {xi' : List ℕ} {xv' : List Float} {at' : ℕ} → (at' ≡ at + 1) × (xi' ≡ set xi at j) × (xv' ≡ set xv at (get_or y j nan)) →
+            Serving n p i v w x₀ xi₀ xv₀ y xi' xv' at' (j + 1)
         serving_on z = rw (z.0, z.1, z.2) (record { valid = s.valid; steps = forwarding_on s.steps h t c q u; out = gathering_on moved h t })

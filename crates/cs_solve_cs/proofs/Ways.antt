@@ -8,7 +8,8 @@ use lib.Dec.{T, ltb, eqb}
 use lib.Ieee.{Float, nan, binary64, fits}
 use lib.ListN.{length, get_or, replicate, length-map}
 use borrow.Author.Tests.{lt-ltb, le-ltb, eq-eqb, ne_eqb, eqb-true}
-use Rattle.lists.specs.Calls.{lowest, both, disagree, lower, onto, none, Scratch, scratch, narrow, cleared, wiped, Lent, lent, outputs, worked, leaves}
+use Rattle.lists.specs.Calls.{lowest, both, disagree, lower, onto, none, Scratch, scratch, narrow, cleared, wiped, Lent, lent, outputs, worked}
+use Rattle.lists.specs.Calls.{leaves}
 use Rattle.lists.specs.Choices.{keep, some, first_or, Found}
 use Rattle.lists.specs.Folds.{along, over}
 use Rattle.lists.specs.Parts.{part, placed}
@@ -42,7 +43,8 @@ from-both a b = (refl, (refl, (refl, (refl, (refl, omega arith)))))
 two_is : (a : Matrix) (b : Vector) → lower (lowest (judged a)) (lowest (judged_vector b)) ≡ lowest (both (judged a) (judged_vector b))
 two_is a b = lowest-both 1 (judged a) (judged_vector b) (omega arith) (from-judged a) (from_vector b)
 
-three_is : (a : Matrix) (b : Vector) (t : Bool) → lower (lowest (both (judged a) (judged_vector b))) (lowest (disagree t)) ≡ lowest (both (both (judged a) (judged_vector b)) (disagree t))
+three_is : (a : Matrix) (b : Vector) (t : Bool) → lower (lowest (both (judged a) (judged_vector b))) (lowest (disagree t))
+    ≡ lowest (both (both (judged a) (judged_vector b)) (disagree t))
 three_is a b t = lowest-both 1 (both (judged a) (judged_vector b)) (disagree t) (omega arith) (from-both a b) (from-disagree t)
 
 module _ (a : Matrix) (b : Vector) {r s t : ℕ} (e : r ≡ lowest (judged a)) (f : s ≡ lowest (judged_vector b)) (g : t ≡ lower r s) where
@@ -59,7 +61,11 @@ module _ (a : Matrix) (b : Vector) {r s t : ℕ} (e : r ≡ lowest (judged a)) (
 
 early_cs : (a : Matrix) (b : Vector) → Early (judged_cs a b)
 unfolding judged_cs judged judged_pattern judged_vector both
-early_cs a b = (omega arith, omega arith, (omega arith, omega arith, (omega arith, omega arith, (omega arith, omega arith, (omega arith, omega arith, omega arith)))))
+early_cs a b = (
+  omega arith,
+  omega arith,
+  (omega arith, omega arith, (omega arith, omega arith, (omega arith, omega arith, (omega arith, omega arith, omega arith)))),
+)
 
 -- what a matrix and a right side are that pass
 pub record Passed (k n : ℕ) (p i : List ℕ) (v : List Float) (bi : List ℕ) (bv : List Float) : Type 0 where
@@ -67,7 +73,8 @@ pub record Passed (k n : ℕ) (p i : List ℕ) (v : List Float) (bi : List ℕ) 
   pub square : Valid (matrix n n p i v)
   pub side : ValidVector (vector n bi bv)
 
-pub passed : (k n : ℕ) (p i : List ℕ) (v : List Float) (bi : List ℕ) (bv : List Float) {r : ℕ} → r ≡ lowest (judged_cs (matrix k n p i v) (vector k bi bv)) → r ≡ 0 → Passed k n p i v bi bv
+pub passed : (k n : ℕ) (p i : List ℕ) (v : List Float) (bi : List ℕ) (bv : List Float) {r : ℕ} →
+    r ≡ lowest (judged_cs (matrix k n p i v) (vector k bi bv)) → r ≡ 0 → Passed k n p i v bi bv
 unfolding judged_cs
 passed k n p i v bi bv e h =
     let a = matrix k n p i v in
@@ -131,7 +138,8 @@ module _ (n : ℕ) (p i : List ℕ) (v : List Float) (bi : List ℕ) (bv : List 
         at_10 k = let t = lacks.found k in rw (roomy, t.0) ((λ z. record { number = 10; column = t.1 z }), refl)
 
         pub at-end : {x x1 : List Float} {xi : List ℕ} {xv : List Float} → n ≤ q → x ≡ replicate n none → x1 ≡ over put_at bi bv x
-            → xi ≡ onto old.i (marks n w) → xv ≡ onto old.v (values_of (along (forward_column a) (marks n w) x1) (marks n w)) → Served (record { number = 0; column = 0 }) (stored xi xv)
+            → xi ≡ onto old.i (marks n w) → xv ≡ onto old.v (values_of (along (forward_column a) (marks n w) x1) (marks n w)) →
+            Served (record { number = 0; column = 0 }) (stored xi xv)
         unfolding later answer outputs written solution steps right
         at-end k z s r o = rw (roomy, lacks.none k) (refl, both_are (r ∙ (rw u)) (o ∙ (rw (s, z, u))))
           where
@@ -169,28 +177,38 @@ module _ (n : ℕ) (work : Scratch) {t : Bool} (f : t ≡ narrow (n + 1) work) (
   pub x_long : n + 1 ≤ length s.x
   x_long = rw (x_is, length-cleared none (n + 1) work.x) (not_narrow (n + 1) work (sym f ∙ g)).in_x
 
-  pub ready : (k : ℕ) (p i : List ℕ) (v : List Float) (bi : List ℕ) (bv : List Float) {r : ℕ} → r ≡ lowest (judged_cs (matrix k n p i v) (vector k bi bv)) → r ≡ 0
+  pub ready : (k : ℕ) (p i : List ℕ) (v : List Float) (bi : List ℕ) (bv : List Float) {r : ℕ} →
+      r ≡ lowest (judged_cs (matrix k n p i v) (vector k bi bv)) → r ≡ 0
       → Ready n p i v bi bv (part 0 n s.w1) (part 0 n s.x)
   ready k p i v bi bv e h =
       let w = not_narrow (n + 1) work (sym f ∙ g) in
       let c = passed k n p i v bi bv e h in
-      record { valid = c.square; side = c.side; clean = rw w1_is (front-zeros 0 n (n + 1) work.w1 (omega arith) w.in_w1); zeros = rw x_is (front-zeros none n (n + 1) work.x (omega arith) w.in_x) }
+      record {
+        valid = c.square;
+        side = c.side;
+        clean = rw w1_is (front-zeros 0 n (n + 1) work.w1 (omega arith) w.in_w1);
+        zeros = rw x_is (front-zeros none n (n + 1) work.x (omega arith) w.in_x);
+      }
 
   wiped-is : {w : List ℕ} (x : List ℕ) {y : List Float} (z : List Float) → length x ≡ length (part 0 n s.w1) → length z ≡ length (part 0 n s.x)
       → w ≡ cleared 0 (n + 1) (placed 0 n s.w1 x) → y ≡ cleared none (n + 1) (placed 0 n s.x z) → scratch w s.w2 s.w3 y ≡ wiped (n + 1) work
   unfolding wiped
   wiped-is x z lx lz ew ey =
       wiped_each (n + 1) work
-      (ew ∙ cleared-after 0 n (n + 1) s.w1 x (omega arith) (omega (arith, w1_long)) (omega (arith, lx, length_part 0 n s.w1 (omega (arith, w1_long)))) ∙ (rw w1_is (cleared-again 0 (n + 1) work.w1)))
+      (ew ∙ cleared-after 0 n (n + 1) s.w1 x (omega arith) (omega (arith, w1_long))
+      (omega (arith, lx, length_part 0 n s.w1 (omega (arith, w1_long)))) ∙ (rw w1_is (cleared-again 0 (n + 1) work.w1)))
       (ap (λ (u : Scratch). u.w2) q)
       (ap (λ (u : Scratch). u.w3) q)
-      (ey ∙ cleared-after none n (n + 1) s.x z (omega arith) (omega (arith, x_long)) (omega (arith, lz, length_part 0 n s.x (omega (arith, x_long)))) ∙ (rw x_is (cleared-again none (n + 1) work.x)))
+      (ey ∙ cleared-after none n (n + 1) s.x z (omega arith) (omega (arith, x_long))
+      (omega (arith, lz, length_part 0 n s.x (omega (arith, x_long)))) ∙ (rw x_is (cleared-again none (n + 1) work.x)))
 
 -- ---- what is promised besides
-promised : {n : ℕ} {p i : List ℕ} {v : List Float} {bi : List ℕ} {bv : List Float} → Valid (matrix n n p i v) → ValidVector (vector n bi bv) → ((k : ℕ) → T (fits binary64 (get_or bv k nan)))
+promised : {n : ℕ} {p i : List ℕ} {v : List Float} {bi : List ℕ} {bv : List Float} → Valid (matrix n n p i v) → ValidVector (vector n bi bv) →
+    ((k : ℕ) → T (fits binary64 (get_or bv k nan)))
     → Promised (matrix n n p i v) (vector n bi bv)
 unfolding solution
-promised {n} {p} {i} {v} {bi} {bv} a b f = record { reach = reaches_least (pattern n n p i) bi a.pattern refl (λ k m. member_below n bi b.below k m); dense = agrees n p i v bi bv a b f }
+promised {n} {p} {i} {v} {bi} {bv} a b f =
+    record { reach = reaches_least (pattern n n p i) bi a.pattern refl (λ k m. member_below n bi b.below k m); dense = agrees n p i v bi bv a b f }
 
 -- ---- the ways out of the call
 module _ (k n : ℕ) (p i : List ℕ) (v : List Float) (bi : List ℕ) (bv : List Float) (old : Lent Stored) where
@@ -201,12 +219,17 @@ module _ (k n : ℕ) (p i : List ℕ) (v : List Float) (bi : List ℕ) (bv : Lis
   B = vector k bi bv
 
   abbrev pub Answer : Solved → Lent Stored → Type 0
-  Answer r new = (r ≡ answer (number A B old) (first_or 0 (lacking_reached A B))) × (new ≡ leaves (number A B old) (needed A.pattern) (written (solution A B) old.out) old) × (number A B old ≡ 0 → Promised A B)
+  Answer r new = (r ≡ answer (number A B old) (first_or 0 (lacking_reached A B))) ×
+      (new ≡ leaves (number A B old) (needed A.pattern) (written (solution A B) old.out) old) × (number A B old ≡ 0 → Promised A B)
 
   -- by 1 to 6 all is as it was
   refused : (r : ℕ) → 0 < r → r < 7 → r ≡ number A B old → Answer (record { number = r; column = 0 }) old
   unfolding answer
-  refused r g h e = rw (← e, ne_eqb r 10 (λ q. omega arith)) (refl, kept r (needed A.pattern) (written (solution A B) old.out) old g h, λ z. absurd (omega arith))
+  refused r g h e = rw (← e, ne_eqb r 10 (λ q. omega arith)) (
+    refl,
+    kept r (needed A.pattern) (written (solution A B) old.out) old g h,
+    λ z. absurd (omega arith),
+  )
 
   module _ {r : ℕ} (e : r ≡ lowest (judged_cs A B)) where
     pub at_check : (r ≡ 0 → ⊥) → Answer (record { number = r; column = 0 }) old
@@ -233,9 +256,15 @@ module _ (k n : ℕ) (p i : List ℕ) (v : List Float) (bi : List ℕ) (bv : Lis
         after_6 : lowest (later A B old.out) ≡ number A B old
         after_6 = (rw (← f, g)) ∙ after_5
 
-        pub at_served : ((k : ℕ) → T (fits binary64 (get_or bv k nan))) → {r' : Solved} {new : Stored} {w : List ℕ} (x : List ℕ) {y : List Float} (z : List Float) → Served n p i v bi bv old.out r' new
-            → length x ≡ length (part 0 n s.w1) → length z ≡ length (part 0 n s.x) → w ≡ cleared 0 (n + 1) (placed 0 n s.w1 x) → y ≡ cleared none (n + 1) (placed 0 n s.x z)
+        pub at_served : ((k : ℕ) → T (fits binary64 (get_or bv k nan))) → {r' : Solved} {new : Stored} {w : List ℕ} (x : List ℕ) {y : List Float}
+            (z : List Float) → Served n p i v bi bv old.out r' new
+            → length x ≡ length (part 0 n s.w1) → length z ≡ length (part 0 n s.x) → w ≡ cleared 0 (n + 1) (placed 0 n s.w1 x) →
+            y ≡ cleared none (n + 1) (placed 0 n s.x z)
             → Answer r' (lent new (scratch w s.w2 s.w3 y))
         at_served known x z sv lx lz ew ey =
             let c = passed k n p i v bi bv e h in
-            rw (← after_6, need_is, c.same) (sv.0, late_leaves n p i v bi bv old sv.1 (wiped-is n old.work f g q x z lx lz ew ey), λ z. promised c.square c.side known)
+            rw (← after_6, need_is, c.same) (
+              sv.0,
+              late_leaves n p i v bi bv old sv.1 (wiped-is n old.work f g q x z lx lz ew ey),
+              λ z. promised c.square c.side known,
+            )

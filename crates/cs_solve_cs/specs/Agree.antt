@@ -21,7 +21,8 @@ pub record Harmless (a : Matrix) (j : ℕ) : Type 0 where
 
 -- at each reached row the dense solve has the result's value, or both have a zero; at every other row it has a zero
 pub record Agrees (a : Matrix) (b : Vector) : Type 0 where
-  pub on : (q : ℕ) → q < length (solution a b).i → Alike (get_or (forward a (right b)) (get_or (solution a b).i q 0) nan) (get_or (solution a b).v q nan)
+  pub on : (q : ℕ) → q < length (solution a b).i → Alike (get_or (forward a (right b)) (get_or (solution a b).i q 0) nan)
+      (get_or (solution a b).v q nan)
   pub off : (k : ℕ) → k < b.n → lists k (solution a b).i ≡ false → Zero (get_or (forward a (right b)) k nan)
 
 -- what is promised of the result besides: its rows are the least set, and where no unreached column does harm it agrees with the dense solve

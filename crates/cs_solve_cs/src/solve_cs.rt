@@ -96,7 +96,8 @@ pub fn solve_lower_triangular_cs(
         let b = vector nrows bi.now bv.now in
         let old = lent (stored xi.old xv.old) (scratch w1.old w2.old w3.old x.old) in
         let new = lent (stored xi.new xv.new) (scratch w1.new w2.new w3.new x.new) in
-        (result ≡ answer (number a b old) (first_or 0 (lacking_reached a b))) × (new ≡ leaves (number a b old) (needed a.pattern) (written (solution a b) old.out) old) × (number a b old ≡ 0 → Promised a b) }
+        (result ≡ answer (number a b old) (first_or 0 (lacking_reached a b))) ×
+        (new ≡ leaves (number a b old) (needed a.pattern) (written (solution a b) old.out) old) × (number a b old ≡ 0 → Promised a b) }
 {
     let refused = judge(nrows, ncols, p, i, v, bi, bv);
     if refused != 0 {

@@ -62,9 +62,14 @@ sums_long : (rows : List ℕ) (av bv : List Float) → length (sums rows av bv) 
 sums_long rows av bv = length-table (length rows) (added_at av bv)
 
 pub adding_start : {rows : List ℕ} {av bv : List Float} {oi : List ℕ} {ov : List Float} → Places rows av bv oi ov → Adding rows av bv oi ov oi ov 0
-adding_start {rows} {av} {bv} a = record { ask = a; i_copy = copying_start (omega (arith, a.i_alike)); v_copy = copying_start (omega (arith, a.v_alike, sums_long rows av bv)) }
+adding_start {rows} {av} {bv} a = record {
+  ask = a;
+  i_copy = copying_start (omega (arith, a.i_alike));
+  v_copy = copying_start (omega (arith, a.v_alike, sums_long rows av bv));
+}
 
-module _ {rows : List ℕ} {av bv : List Float} {oi₀ : List ℕ} {ov₀ : List Float} {oi : List ℕ} {ov : List Float} {k : ℕ} (w : Adding rows av bv oi₀ ov₀ oi ov k) where
+module _ {rows : List ℕ} {av bv : List Float} {oi₀ : List ℕ} {ov₀ : List Float} {oi : List ℕ} {ov : List Float} {k : ℕ}
+    (w : Adding rows av bv oi₀ ov₀ oi ov k) where
   pub adding_i : length oi ≡ length oi₀
   adding_i = copying_long w.i_copy
 
@@ -92,7 +97,8 @@ placed-laid {A} a b l ys h g e =
     behind : l ≡ onto l (take a l)
     behind = laid_none a l h ∙ ap (onto l) (append-nil (take a l))
 
-module _ {n start : ℕ} {ai : List ℕ} {av : List Float} {bi : List ℕ} {bv : List Float} {oi : List ℕ} {ov : List Float} (c : Column n start ai av bi bv oi ov) (same : same_rows ai bi ≡ true) where
+module _ {n start : ℕ} {ai : List ℕ} {av : List Float} {bi : List ℕ} {bv : List Float} {oi : List ℕ} {ov : List Float}
+    (c : Column n start ai av bi bv oi ov) (same : same_rows ai bi ≡ true) where
   are : ai ≡ bi
   are = same_are ai bi same
 
@@ -100,11 +106,13 @@ module _ {n start : ℕ} {ai : List ℕ} {av : List Float} {bi : List ℕ} {bv :
   walked : (k : ℕ) → k ≤ length ai → Merging n ai bi k k (take k ai)
   walked zero h = merging_start n ai bi c.risen.small c.risen.l_below c.risen.m_below c.risen.l_up c.risen.m_up
   walked (suc k) h =
-      let m = merging_both (walked k (omega arith)) {r = get_or ai k end} {s = get_or bi k end} refl refl (ap (λ (l : List ℕ). get_or l k end) are) (inl (omega arith)) in
+      let m = merging_both (walked k (omega arith)) {r = get_or ai k end} {s = get_or bi k end} refl refl (ap (λ (l : List ℕ). get_or l k end) are)
+      (inl (omega arith)) in
       rw (take-suc ai k end (omega arith), ← add-one) m
 
   rows_are : chosen n (either ai bi) ≡ ai
-  rows_are = sym (merging_ends (walked (length ai) (omega arith)) (omega arith) (omega (arith, ap length are))) ∙ take_all (length ai) ai (omega arith)
+  rows_are = sym (merging_ends (walked (length ai) (omega arith)) (omega arith) (omega (arith, ap length are))) ∙
+      take_all (length ai) ai (omega arith)
 
   value-is : (k : ℕ) → k < length ai → summed_at ai av bi bv (get_or ai k end) ≡ added_at av bv k
   value-is k h =
@@ -117,7 +125,8 @@ module _ {n start : ℕ} {ai : List ℕ} {av : List Float} {bi : List ℕ} {bv :
   vals_are : map (summed_at ai av bi bv) ai ≡ table (length ai) (added_at av bv)
   vals_are =
       is-table nan (length ai) (added_at av bv) (map (summed_at ai av bi bv) ai) (length-map ai (summed_at ai av bi bv))
-      (λ k h. get_d_any (map (summed_at ai av bi bv) ai) k nan (summed_at ai av bi bv end) (omega (arith, length-map ai (summed_at ai av bi bv))) ∙ get_or-map (summed_at ai av bi bv) ai k end ∙ value-is k h)
+      (λ k h. get_d_any (map (summed_at ai av bi bv) ai) k nan (summed_at ai av bi bv end) (omega (arith, length-map ai (summed_at ai av bi bv))) ∙
+      get_or-map (summed_at ai av bi bv) ai k end ∙ value-is k h)
 
   pub ends_i : start + length ai ≤ length oi
   ends_i = omega (arith, c.in_i, ap length rows_are)
@@ -135,10 +144,12 @@ module _ {n start : ℕ} {ai : List ℕ} {av : List Float} {bi : List ℕ} {bv :
       }
 
   pub merged : {yi : List ℕ} {yv : List Float} → yi ≡ ai → yv ≡ table (length ai) (added_at av bv)
-      → (start + length ai ≡ start + length (chosen n (either ai bi))) × (placed start (start + length ai) oi yi ≡ laid start oi (chosen n (either ai bi)))
+      → (start + length ai ≡ start + length (chosen n (either ai bi))) ×
+      (placed start (start + length ai) oi yi ≡ laid start oi (chosen n (either ai bi)))
       × (placed start (start + length ai) ov yv ≡ laid start ov (map (summed_at ai av bi bv) (chosen n (either ai bi))))
   merged e f = rw (rows_are, vals_are, e, f) (
     refl,
     placed-laid start (start + length ai) oi ai (omega (arith, ends_i)) (omega arith) (omega arith),
-    placed-laid start (start + length ai) ov (table (length ai) (added_at av bv)) (omega (arith, ends_v)) (omega arith) (length-table (length ai) (added_at av bv) ∙ omega arith),
+    placed-laid start (start + length ai) ov (table (length ai) (added_at av bv)) (omega (arith, ends_v)) (omega arith)
+        (length-table (length ai) (added_at av bv) ∙ omega arith),
   )

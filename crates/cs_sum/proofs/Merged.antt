@@ -13,7 +13,9 @@ use Rattle.lists.proofs.Chosen.{map_more}
 use Rattle.lists.proofs.Ordering.{rises-apart}
 use Rattle.cs_columns.specs.Columns.{either, laid}
 use Rattle.cs_columns.proofs.Filling.{laid_none, laid_more, length-laid}
-use Rattle.cs_columns.proofs.Merging.{end, row_there, Merging, merging_start, merging_ends, merging_count, merging_room, first-in, first_only, merging_first, second_in, second_only, second_lists, merging_second, both_first, both_second, both_list, both_list_too, merging_both}
+use Rattle.cs_columns.proofs.Merging.{end, row_there, Merging, merging_start, merging_ends, merging_count, merging_room, first-in, first_only}
+use Rattle.cs_columns.proofs.Merging.{merging_first, second_in, second_only, second_lists, merging_second, both_first, both_second, both_list}
+use Rattle.cs_columns.proofs.Merging.{both_list_too, merging_both}
 use Rattle.cs_matrix.specs.Matrix.{value_at}
 use Rattle.cs_matrix.proofs.Values.{value_there}
 use Rattle.cs_sum.specs.Steps.{Risen, Column}
@@ -43,20 +45,34 @@ module _ {n : ℕ} {l m : List ℕ} {count ka kb : ℕ} (v : Counting n l m coun
 
   module _ {r s : ℕ} (er : r ≡ get_or l ka end) (es : s ≡ get_or m kb end) where
     pub counting_first : r < s → Counting n l m (count + 1) (ka + 1) kb
-    counting_first h = record { found = v.found ++ (r ∷ []); merging = merging_first v.merging er es h; count_is = omega (arith, one_longer v.found r, v.count_is) }
+    counting_first h = record {
+      found = v.found ++ (r ∷ []);
+      merging = merging_first v.merging er es h;
+      count_is = omega (arith, one_longer v.found r, v.count_is);
+    }
 
     pub counting_second : s < r → Counting n l m (count + 1) ka (kb + 1)
-    counting_second h = record { found = v.found ++ (s ∷ []); merging = merging_second v.merging er es h; count_is = omega (arith, one_longer v.found s, v.count_is) }
+    counting_second h = record {
+      found = v.found ++ (s ∷ []);
+      merging = merging_second v.merging er es h;
+      count_is = omega (arith, one_longer v.found s, v.count_is);
+    }
 
     pub counting_both : r ≤ s → s ≤ r → (ka < length l) ⊎ (kb < length m) → Counting n l m (count + 1) (ka + 1) (kb + 1)
-    counting_both g h o = record { found = v.found ++ (r ∷ []); merging = merging_both v.merging er es (omega arith) o; count_is = omega (arith, one_longer v.found r, v.count_is) }
+    counting_both g h o = record {
+      found = v.found ++ (r ∷ []);
+      merging = merging_both v.merging er es (omega arith) o;
+      count_is = omega (arith, one_longer v.found r, v.count_is);
+    }
 
 -- ---- the values
-pub given : (rows : List ℕ) (vals : List Float) (k r : ℕ) → rises rows ≡ true → length vals ≡ length rows → k < length rows → r ≡ get_or rows k end → mul binary64 (get_or vals k nan) one ≡ gives r rows vals
+pub given : (rows : List ℕ) (vals : List Float) (k r : ℕ) → rises rows ≡ true → length vals ≡ length rows → k < length rows → r ≡ get_or rows k end
+    → mul binary64 (get_or vals k nan) one ≡ gives r rows vals
 unfolding gives
 given rows vals k r u e h g =
     ap (λ (x : Float). mul binary64 x one)
-    (sym (value_there (get_or rows k 0) k rows vals e h (λ q l. rises-apart rows u q k l h) refl) ∙ ap (λ (x : ℕ). value_at x rows vals) (sym (g ∙ sym (row_there rows k h))))
+    (sym (value_there (get_or rows k 0) k rows vals e h (λ q l. rises-apart rows u q k l h) refl) ∙
+    ap (λ (x : ℕ). value_at x rows vals) (sym (g ∙ sym (row_there rows k h))))
 
 module _ (ai : List ℕ) (av : List Float) (bi : List ℕ) (bv : List Float) (r : ℕ) where
   of_first : lists r bi ≡ false → gives r ai av ≡ summed_at ai av bi bv r
@@ -103,14 +119,20 @@ module _ (n start : ℕ) (ai : List ℕ) (av : List Float) (bi : List ℕ) (bv :
     writing_i = rw v.i_is (length-laid start oi₀ v.found (omega (arith, v.ask.in_i, merging_room v.merging)))
 
     pub writing_v : length ov ≡ length ov₀
-    writing_v = rw v.v_is (length-laid start ov₀ (vals v.found) (omega (arith, v.ask.in_v, merging_room v.merging, length-map v.found (summed_at ai av bi bv))))
+    writing_v = rw v.v_is (length-laid start ov₀ (vals v.found)
+        (omega (arith, v.ask.in_v, merging_room v.merging, length-map v.found (summed_at ai av bi bv))))
 
     pub writing_small : at ≤ 4194304
     writing_small = omega (arith, v.at_is, v.ask.few, merging_room v.merging)
 
     pub writing_done : length ai ≤ ka → length bi ≤ kb
-        → (at ≡ start + length (chosen n (either ai bi))) × (oi ≡ laid start oi₀ (chosen n (either ai bi))) × (ov ≡ laid start ov₀ (vals (chosen n (either ai bi))))
-    writing_done g h = let e = merging_ends v.merging g h in (v.at_is ∙ ap (λ (l : List ℕ). start + length l) e, v.i_is ∙ ap (laid start oi₀) e, v.v_is ∙ ap (λ (l : List ℕ). laid start ov₀ (vals l)) e)
+        → (at ≡ start + length (chosen n (either ai bi))) × (oi ≡ laid start oi₀ (chosen n (either ai bi))) ×
+        (ov ≡ laid start ov₀ (vals (chosen n (either ai bi))))
+    writing_done g h = let e = merging_ends v.merging g h in (
+      v.at_is ∙ ap (λ (l : List ℕ). start + length l) e,
+      v.i_is ∙ ap (laid start oi₀) e,
+      v.v_is ∙ ap (λ (l : List ℕ). laid start ov₀ (vals l)) e,
+    )
 
     -- one row more has room, and is written
     module _ {ka' kb' : ℕ} (x : ℕ) (more : Merging n ai bi ka' kb' (v.found ++ (x ∷ []))) where
@@ -132,7 +154,8 @@ module _ (n start : ℕ) (ai : List ℕ) (av : List Float) (bi : List ℕ) (bv :
             merging = more;
             at_is = omega (arith, v.at_is, one_longer v.found x);
             i_is = rw v.i_is (laid_more start oi₀ v.found x at v.at_is (omega (arith, fits, v.ask.in_i)));
-            v_is = rw (v.v_is, e, map_more (summed_at ai av bi bv) v.found x) (laid_more start ov₀ (vals v.found) (summed_at ai av bi bv x) at (omega (arith, v.at_is, m)) (omega (arith, fits, v.ask.in_v)));
+            v_is = rw (v.v_is, e, map_more (summed_at ai av bi bv) v.found x) (laid_more start ov₀ (vals v.found) (summed_at ai av bi bv x) at
+                (omega (arith, v.at_is, m)) (omega (arith, fits, v.ask.in_v)));
           }
 
     module _ {r s : ℕ} (er : r ≡ get_or ai ka end) (es : s ≡ get_or bi kb end) where
@@ -172,7 +195,8 @@ module _ (n start : ℕ) (ai : List ℕ) (av : List Float) (bi : List ℕ) (bv :
         second_value = omega (arith, second_in v.merging er es h, v.ask.b_alike)
 
         pub writing_second : Writing oi₀ ov₀ (set oi at s) (set ov at (mul binary64 (get_or bv kb nan) one)) (at + 1) ka (kb + 1)
-        writing_second = writing_more s second_found (b_given (second_in v.merging er es h) refl ∙ of_second ai av bi bv s (second_only v.merging er es h) (second_lists v.merging er es h))
+        writing_second = writing_more s second_found (b_given (second_in v.merging er es h) refl ∙
+            of_second ai av bi bv s (second_only v.merging er es h) (second_lists v.merging er es h))
 
       module _ (g : r ≤ s) (h : s ≤ r) (o : (ka < length ai) ⊎ (kb < length bi)) where
         same : r ≡ s
@@ -193,7 +217,8 @@ module _ (n start : ℕ) (ai : List ℕ) (av : List Float) (bi : List ℕ) (bv :
         pub both-value_too : kb < length bv
         both-value_too = omega (arith, both_second v.merging er es same o, v.ask.b_alike)
 
-        pub writing_both : Writing oi₀ ov₀ (set oi at r) (set ov at (add binary64 (mul binary64 (get_or av ka nan) one) (mul binary64 (get_or bv kb nan) one))) (at + 1) (ka + 1) (kb + 1)
+        pub writing_both : Writing oi₀ ov₀ (set oi at r)
+            (set ov at (add binary64 (mul binary64 (get_or av ka nan) one) (mul binary64 (get_or bv kb nan) one))) (at + 1) (ka + 1) (kb + 1)
         writing_both =
             writing_more r both_found
             (rw (a_given (both_first v.merging er es same o), b_given (both_second v.merging er es same o) same)
@@ -205,16 +230,20 @@ module _ (n start : ℕ) (ai : List ℕ) (av : List Float) (bi : List ℕ) (bv :
     pub r_is : r ≡ get_or ai ka end
     pub s_is : s ≡ get_or bi kb end
 
-  pub walking_start : {oi : List ℕ} {ov : List Float} {r s : ℕ} → Column n start ai av bi bv oi ov → r ≡ get_or ai 0 end → s ≡ get_or bi 0 end → Walking oi ov oi ov start 0 0 r s
+  pub walking_start : {oi : List ℕ} {ov : List Float} {r s : ℕ} → Column n start ai av bi bv oi ov → r ≡ get_or ai 0 end → s ≡ get_or bi 0 end →
+      Walking oi ov oi ov start 0 0 r s
   walking_start a er es = record { writing = writing_start a; r_is = er; s_is = es }
 
   module _ {oi₀ : List ℕ} {ov₀ : List Float} {oi : List ℕ} {ov : List Float} {at ka kb r s : ℕ} (w : Walking oi₀ ov₀ oi ov at ka kb r s) where
-    pub walking_first : r < s → {r' : ℕ} → r' ≡ get_or ai (ka + 1) end → Walking oi₀ ov₀ (set oi at r) (set ov at (mul binary64 (get_or av ka nan) one)) (at + 1) (ka + 1) kb r' s
+    pub walking_first : r < s → {r' : ℕ} → r' ≡ get_or ai (ka + 1) end →
+        Walking oi₀ ov₀ (set oi at r) (set ov at (mul binary64 (get_or av ka nan) one)) (at + 1) (ka + 1) kb r' s
     walking_first h e = record { writing = writing_first w.writing w.r_is w.s_is h; r_is = e; s_is = w.s_is }
 
-    pub walking_second : s < r → {s' : ℕ} → s' ≡ get_or bi (kb + 1) end → Walking oi₀ ov₀ (set oi at s) (set ov at (mul binary64 (get_or bv kb nan) one)) (at + 1) ka (kb + 1) r s'
+    pub walking_second : s < r → {s' : ℕ} → s' ≡ get_or bi (kb + 1) end →
+        Walking oi₀ ov₀ (set oi at s) (set ov at (mul binary64 (get_or bv kb nan) one)) (at + 1) ka (kb + 1) r s'
     walking_second h e = record { writing = writing_second w.writing w.r_is w.s_is h; r_is = w.r_is; s_is = e }
 
     pub walking_both : r ≤ s → s ≤ r → (ka < length ai) ⊎ (kb < length bi) → {r' s' : ℕ} → r' ≡ get_or ai (ka + 1) end → s' ≡ get_or bi (kb + 1) end
-        → Walking oi₀ ov₀ (set oi at r) (set ov at (add binary64 (mul binary64 (get_or av ka nan) one) (mul binary64 (get_or bv kb nan) one))) (at + 1) (ka + 1) (kb + 1) r' s'
+        → Walking oi₀ ov₀ (set oi at r) (set ov at (add binary64 (mul binary64 (get_or av ka nan) one) (mul binary64 (get_or bv kb nan) one)))
+        (at + 1) (ka + 1) (kb + 1) r' s'
     walking_both g h o e f = record { writing = writing_both w.writing w.r_is w.s_is g h o; r_is = e; s_is = f }

@@ -18,7 +18,8 @@ use Rattle.lists.proofs.Tables.{length-table}
 use Rattle.cs_matrix.specs.Matrix.{Matrix, matrix, Stored, stored, column, short, written, Valid}
 use Rattle.cs_matrix.proofs.Pointers.{Between, between, column-is, length-column, get_or-column, last-at}
 use Rattle.cs_columns.specs.Columns.{joined, with_columns, with_entries, either, laid, judged_two, short_for}
-use Rattle.cs_columns.proofs.Filling.{Filling, filling_start, filling_turn, filling_end, filling_at, filling_i, filling_v, room_i, room_v, room_p, room-all}
+use Rattle.cs_columns.proofs.Filling.{Filling, filling_start, filling_turn, filling_end, filling_at, filling_i, filling_v, room_i, room_v, room_p}
+use Rattle.cs_columns.proofs.Filling.{room-all}
 use Rattle.cs_columns.proofs.Joining.{joined-none, length_more, joined-steps, joined_alike, entries-within, entries_valid}
 use Rattle.cs_columns.proofs.Judging.{early_two, Passed, passed, Roomy, roomy, short_fewer, short_for_lem}
 use Rattle.cs_columns.proofs.Merging.{either-most}
@@ -40,7 +41,8 @@ unfolding differ
 same_dimensions n m k l h = let x = or-false (not (eqb n k)) _ h in (eqb-true n k (not_holds _ x.0), eqb-true m l (not_holds _ x.1))
 
 -- ---- the rows of a column are below the row count
-column-below : {a : Matrix} → Valid a → (j : ℕ) → get_or a.pattern.p (j + 1) 0 ≤ length a.pattern.i → (k : ℕ) → k < length (column a.pattern.p j a.pattern.i) → get_or (column a.pattern.p j a.pattern.i) k 0 < a.pattern.nrows
+column-below : {a : Matrix} → Valid a → (j : ℕ) → get_or a.pattern.p (j + 1) 0 ≤ length a.pattern.i → (k : ℕ) →
+    k < length (column a.pattern.p j a.pattern.i) → get_or (column a.pattern.p j a.pattern.i) k 0 < a.pattern.nrows
 column-below {a} v j h k l =
     let n = length-column a.pattern.p j a.pattern.i h in
     rw (get_or-column a.pattern.p j a.pattern.i k 0 (omega (arith, n)))
@@ -66,7 +68,8 @@ module _ (nrows ncols : ℕ) (ap ai : List ℕ) (av : List Float) (bp bi : List 
     pub a_vals : e ≤ length av
     pub b_vals : d ≤ length bv
 
-  pub handed : Operands a b → {j x e c d : ℕ} → j < ncols → x ≡ get_or ap j 0 → e ≡ get_or ap (j + 1) 0 → c ≡ get_or bp j 0 → d ≡ get_or bp (j + 1) 0 → Handed j x e c d
+  pub handed : Operands a b → {j x e c d : ℕ} → j < ncols → x ≡ get_or ap j 0 → e ≡ get_or ap (j + 1) 0 → c ≡ get_or bp j 0 →
+      d ≡ get_or bp (j + 1) 0 → Handed j x e c d
   handed v h f g k l =
       let s = between v.first.pattern.ptrs v.first.pattern.p_long h f g in
       let t = between v.second.pattern.ptrs v.second.pattern.p_long h k l in
@@ -104,7 +107,8 @@ module _ (nrows ncols : ℕ) (ap ai : List ℕ) (av : List Float) (bp bi : List 
     b_alike : length (part c d bv) ≡ length (part c d bi)
     b_alike = omega (arith, length_part c d bv p.b_vals, length_part c d bi p.second.inside)
 
-    pub columned : {at : ℕ} {oi : List ℕ} {ov : List Float} → at + length (rows j) ≤ 4194304 → at + length (rows j) ≤ length oi → at + length (rows j) ≤ length ov
+    pub columned : {at : ℕ} {oi : List ℕ} {ov : List Float} → at + length (rows j) ≤ 4194304 → at + length (rows j) ≤ length oi →
+        at + length (rows j) ≤ length ov
         → Column nrows at (part x e ai) (part x e av) (part c d bi) (part c d bv) oi ov
     columned f g k = record { risen = risen; a_alike = a_alike; b_alike = b_alike; few = rw rows_is f; in_i = rw rows_is g; in_v = rw rows_is k }
 
@@ -123,7 +127,12 @@ module _ (nrows ncols : ℕ) (ap ai : List ℕ) (av : List Float) (bp bi : List 
       next = omega (arith, s.is, f, cong length (rows_is s.ask h p), length_more rows j)
 
       pub tallying_small : places + r ≤ 4294901760
-      tallying_small = omega (arith, next, entries-within nrows ncols (row_of a b) (value_of a b) (j + 1) s.ask.first.pattern.rows, s.ask.first.pattern.cols)
+      tallying_small = omega (
+        arith,
+        next,
+        entries-within nrows ncols (row_of a b) (value_of a b) (j + 1) s.ask.first.pattern.rows,
+        s.ask.first.pattern.cols,
+      )
 
       pub tallying_turn : Tallying (places + r) (j + 1)
       tallying_turn = record { ask = s.ask; within = omega arith; is = next }
@@ -139,20 +148,35 @@ module _ (nrows ncols : ℕ) (ap ai : List ℕ) (av : List Float) (bp bi : List 
     column-most j h =
         let s = between v.first.pattern.ptrs v.first.pattern.p_long h refl refl in
         let t = between v.second.pattern.ptrs v.second.pattern.p_long h refl refl in
-        omega (arith, either-most nrows (column ap j ai) (column bp j bi), length-column ap j ai s.inside, length-column bp j bi t.inside, s.order, t.order)
+        omega (
+          arith,
+          either-most nrows (column ap j ai) (column bp j bi),
+          length-column ap j ai s.inside,
+          length-column bp j bi t.inside,
+          s.order,
+          t.order,
+        )
 
     places_most : length (joined rows ncols) ≤ length ai + length bi
     places_most =
         let s = v.first.pattern in
         let t = v.second.pattern in
-        omega
-        (arith, joined-steps rows (λ (j : ℕ). get_or ap j 0 + get_or bp j 0) ncols column-most, s.ptrs.first, t.ptrs.first, last-at s.ptrs ncols s.p_long, last-at t.ptrs ncols t.p_long)
+        omega (
+          arith,
+          joined-steps rows (λ (j : ℕ). get_or ap j 0 + get_or bp j 0) ncols column-most,
+          s.ptrs.first,
+          t.ptrs.first,
+          last-at s.ptrs ncols s.p_long,
+          last-at t.ptrs ncols t.p_long,
+        )
 
     module _ (p i w : ℕ) {t : Bool} where
-      pub room_for_both : t ≡ short_for ncols (length ai + length bi) p i w → not t ≡ true → false ≡ short_for ncols (length (joined rows ncols)) p i w
+      pub room_for_both : t ≡ short_for ncols (length ai + length bi) p i w → not t ≡ true → false ≡ short_for ncols (length (joined rows ncols)) p
+          i w
       room_for_both e h = sym (short_fewer ncols (length ai + length bi) (length (joined rows ncols)) p i w (failed e h) places_most)
 
-      pub room-counted : {places : ℕ} → places ≡ length (joined rows ncols) → t ≡ short_for ncols places p i w → t ≡ short_for ncols (length (joined rows ncols)) p i w
+      pub room-counted : {places : ℕ} → places ≡ length (joined rows ncols) → t ≡ short_for ncols places p i w →
+          t ≡ short_for ncols (length (joined rows ncols)) p i w
       room-counted f e = rw f at e
 
   -- ---- `fill`
@@ -164,7 +188,12 @@ module _ (nrows ncols : ℕ) (ap ai : List ℕ) (av : List Float) (bp bi : List 
   writing_start q =
       record {
         ask = q;
-        filling = filling_start nrows ncols rows vals (record { alike = λ j h. sym (length-map (rows j) (value_of a b j)); in_p = q.in_p; in_i = q.in_i; in_v = q.in_v });
+        filling = filling_start nrows ncols rows vals (record {
+          alike = λ j h. sym (length-map (rows j) (value_of a b j));
+          in_p = q.in_p;
+          in_i = q.in_i;
+          in_v = q.in_v;
+        });
       }
 
   module _ {op₀ oi₀ : List ℕ} {ov₀ : List Float} {op oi : List ℕ} {ov : List Float} {at j : ℕ} (s : Writing op₀ oi₀ ov₀ op oi ov at j) where
@@ -185,11 +214,13 @@ module _ (nrows ncols : ℕ) (ap ai : List ℕ) (av : List Float) (bp bi : List 
 
     module _ (h : j < ncols) {x e c d : ℕ} (p : Handed j x e c d) where
       pub writing_asks : Column nrows at (part x e ai) (part x e av) (part c d bi) (part c d bv) oi ov
-      writing_asks = columned s.ask.alike h p (omega (arith, room-all nrows ncols rows vals s.filling h, s.ask.few)) (room_i nrows ncols rows vals s.filling h) (room_v nrows ncols rows vals s.filling h)
+      writing_asks = columned s.ask.alike h p (omega (arith, room-all nrows ncols rows vals s.filling h, s.ask.few))
+          (room_i nrows ncols rows vals s.filling h) (room_v nrows ncols rows vals s.filling h)
 
       pub writing_turn : {r : ℕ} {oi' : List ℕ} {ov' : List Float} → r ≡ at + length (chosen nrows (either (part x e ai) (part c d bi)))
           → oi' ≡ laid at oi (chosen nrows (either (part x e ai) (part c d bi)))
-          → ov' ≡ laid at ov (map (summed_at (part x e ai) (part x e av) (part c d bi) (part c d bv)) (chosen nrows (either (part x e ai) (part c d bi))))
+          → ov' ≡ laid at ov (map (summed_at (part x e ai) (part x e av) (part c d bi) (part c d bv))
+          (chosen nrows (either (part x e ai) (part c d bi))))
           → Writing op₀ oi₀ ov₀ (set op j at) oi' ov' r (j + 1)
       writing_turn f g k =
           record {

@@ -6,7 +6,8 @@ use Rattle.lists.specs.Folds.{every}
 use Rattle.lists.specs.Keys.{of_key, by_key}
 use Rattle.lists.specs.Order.{rises, all_below}
 use Rattle.lists.specs.Tables.{from}
-use Rattle.cs_matrix.specs.Matrix.{Matrix, Stored, stored, matrix, too_large, pointers, column, columns_rise, judged_pattern, judged, needed, short, written}
+use Rattle.cs_matrix.specs.Matrix.{Matrix, Stored, stored, matrix, too_large, pointers, column, columns_rise, judged_pattern, judged, needed, short}
+use Rattle.cs_matrix.specs.Matrix.{written}
 use Rattle.cs_transpose.specs.Transpose.{columns, transposed_pattern, transposed, number}
 
 module _ (a b c d e f g x : Float) where
@@ -16,7 +17,8 @@ module _ (a b c d e f g x : Float) where
 
   -- outputs with an element too many, and a first scratch slice like this
   given : List ℕ → Lent Stored
-  given w = lent (stored (9 ∷ 9 ∷ 9 ∷ 9 ∷ 9 ∷ []) (9 ∷ 9 ∷ 9 ∷ 9 ∷ 9 ∷ 9 ∷ 9 ∷ 9 ∷ []) (x ∷ x ∷ x ∷ x ∷ x ∷ x ∷ x ∷ x ∷ [])) (scratch w (1 ∷ 1 ∷ 1 ∷ 1 ∷ 1 ∷ []) (2 ∷ 2 ∷ 2 ∷ 2 ∷ 2 ∷ 2 ∷ []) (x ∷ x ∷ x ∷ x ∷ x ∷ x ∷ []))
+  given w = lent (stored (9 ∷ 9 ∷ 9 ∷ 9 ∷ 9 ∷ []) (9 ∷ 9 ∷ 9 ∷ 9 ∷ 9 ∷ 9 ∷ 9 ∷ 9 ∷ []) (x ∷ x ∷ x ∷ x ∷ x ∷ x ∷ x ∷ x ∷ []))
+      (scratch w (1 ∷ 1 ∷ 1 ∷ 1 ∷ 1 ∷ []) (2 ∷ 2 ∷ 2 ∷ 2 ∷ 2 ∷ 2 ∷ []) (x ∷ x ∷ x ∷ x ∷ x ∷ x ∷ []))
 
   done : number q (given (1 ∷ 2 ∷ 3 ∷ 4 ∷ 5 ∷ 6 ∷ [])) ≡ 0
   unfolding q given number judged judged_pattern both too_large pointers all_below rises column columns_rise every needed narrow short transposed transposed_pattern from columns of_key by_key

@@ -39,7 +39,8 @@ module _ {k : ℕ} {par mark : List ℕ} {c j above : ℕ} (w : Walks k par mark
       let p : get_or par c 0 ≡ a = parent ∙ sym g in
       record {
         low = l;
-        none = λ older m f. rw p (path_seen f par k a older (omega arith) (sym (m.at a (omega (arith, w.m_long))) ∙ eq-eqb (get_or mark a 0) (k + 1) s));
+        none = λ older m f. rw p (path_seen f par k a older (omega arith) (sym (m.at a (omega (arith, w.m_long))) ∙
+            eq-eqb (get_or mark a 0) (k + 1) s));
       }
 
 -- ---- `descend`: from t on the way is read, the last of it has the parent `above` or is below it
@@ -51,7 +52,8 @@ pub record Descending (k : ℕ) (par held mark₀ mark : List ℕ) (above t : �
   pub goes : (older : List ℕ) → Marks k mark₀ older → (f : ℕ) → path (f + (length held - t)) par k above older ≡ drop t held
   pub marks : (older : List ℕ) → Marks k mark₀ older → Marks k mark (drop t held ++ older)
 
-pub descending_start : {k : ℕ} {par held mark : List ℕ} {above t c j : ℕ} → Walks k par mark → Stops k par mark c → j ≡ c → above ≡ get_or par j 0 → t ≡ length held → Descending k par held mark mark above t
+pub descending_start : {k : ℕ} {par held mark : List ℕ} {above t c j : ℕ} → Walks k par mark → Stops k par mark c → j ≡ c → above ≡ get_or par j 0 →
+    t ≡ length held → Descending k par held mark mark above t
 descending_start {par = par} {held = held} {above = above} {c = c} w s i e z =
     let d : get_or par c 0 ≡ above = ap (λ (x : ℕ). get_or par x 0) (sym i) ∙ sym e in
     let n : drop (length held) held ≡ [] = drop-length held in
@@ -65,7 +67,8 @@ descending_start {par = par} {held = held} {above = above} {c = c} w s i e z =
       marks = λ older m. rw n m;
     })
 
-module _ {k : ℕ} {par held mark₀ mark : List ℕ} {above t b j : ℕ} (v : Descending k par held mark₀ mark above t) (h : 0 < t) (e : b ≡ get_or held (t - 1) 0) (l : b ≤ k) (i : j ≡ b) where
+module _ {k : ℕ} {par held mark₀ mark : List ℕ} {above t b j : ℕ} (v : Descending k par held mark₀ mark above t) (h : 0 < t)
+    (e : b ≡ get_or held (t - 1) 0) (l : b ≤ k) (i : j ≡ b) where
   pub in_par : j < length par
   in_par = omega (arith, v.asks.p_long)
 
@@ -90,7 +93,8 @@ module _ {k : ℕ} {par held mark₀ mark : List ℕ} {above t b j : ℕ} (v : D
     on : (older : List ℕ) → Marks k mark₀ older → (f : ℕ) → path (f + (length held - (t - 1))) par k b older ≡ drop (t - 1) held
     on older m f =
         let z : f + (length held - (t - 1)) ≡ suc (f + (length held - t)) = omega (arith, v.within) in
-        rw (z, back) (path_new (f + (length held - t)) par k b older l (new older m) ∙ ap (λ (x : ℕ). b ∷ path (f + (length held - t)) par k x older) up ∙ ap (λ (x : List ℕ). b ∷ x) (v.goes older m f))
+        rw (z, back) (path_new (f + (length held - t)) par k b older l (new older m) ∙
+        ap (λ (x : ℕ). b ∷ path (f + (length held - t)) par k x older) up ∙ ap (λ (x : List ℕ). b ∷ x) (v.goes older m f))
 
     pub descending_turn : Descending k par held mark₀ (set mark j (k + 1)) b (t - 1)
     descending_turn =
@@ -104,14 +108,19 @@ module _ {k : ℕ} {par held mark₀ mark : List ℕ} {above t b j : ℕ} (v : D
           marks = λ older m. rw (back, ← i) (marks-more [] (drop t held ++ older) j in_mark (v.marks older m));
         }
 
-    pub descending_found : {row : ℕ} → b ≡ row → (older : List ℕ) → Marks k mark₀ older → t - 1 ≤ length held → Read k par row older held (t - 1) (set mark j (k + 1))
+    pub descending_found : {row : ℕ} → b ≡ row → (older : List ℕ) → Marks k mark₀ older → t - 1 ≤ length held →
+        Read k par row older held (t - 1) (set mark j (k + 1))
     descending_found f older m q =
         let d = descending_turn in
         let z : suc k - (length held - (t - 1)) + (length held - (t - 1)) ≡ suc k = omega (arith, d.short, l) in
-        rw (← f) (record { is = ap (λ (x : ℕ). path x par k b older) (sym z) ∙ d.goes older m (suc k - (length held - (t - 1))); marks = d.marks older m })
+        rw (← f) (record {
+          is = ap (λ (x : ℕ). path x par k b older) (sym z) ∙ d.goes older m (suc k - (length held - (t - 1)));
+          marks = d.marks older m;
+        })
 
 -- nothing is told
-pub not-read : {k : ℕ} {par : List ℕ} {row : ℕ} {held mark₀ mark : List ℕ} {r : ℕ} → length held < r → (older : List ℕ) → Marks k mark₀ older → r ≤ length held → Read k par row older held r mark
+pub not-read : {k : ℕ} {par : List ℕ} {row : ℕ} {held mark₀ mark : List ℕ} {r : ℕ} → length held < r → (older : List ℕ) → Marks k mark₀ older →
+    r ≤ length held → Read k par row older held r mark
 not-read h older m l = absurd (omega arith)
 
 -- ---- `read_row`: a row that is listed already
@@ -119,7 +128,8 @@ module _ {k : ℕ} {par : List ℕ} {row : ℕ} {held mark : List ℕ} where
   nothing : (older : List ℕ) → Marks k mark older → way k par row older ≡ [] → Read k par row older held (length held) mark
   nothing older m e = let n : drop (length held) held ≡ [] = drop-length held in record { is = rw n e; marks = rw n m }
 
-  pub read-listed : {j : ℕ} → Walks k par mark → row ≤ k → j ≡ row → get_or mark j 0 ≡ k + 1 → (older : List ℕ) → Marks k mark older → length held ≤ length held → Read k par row older held (length held) mark
+  pub read-listed : {j : ℕ} → Walks k par mark → row ≤ k → j ≡ row → get_or mark j 0 ≡ k + 1 → (older : List ℕ) → Marks k mark older →
+      length held ≤ length held → Read k par row older held (length held) mark
   read-listed {j = j} w h i s older m l =
       let g : get_or mark row 0 ≡ k + 1 = ap (λ (x : ℕ). get_or mark x 0) (sym i) ∙ s in
       nothing older m (path_seen (suc k) par k row older h (sym (m.at row (omega (arith, w.m_long))) ∙ eq-eqb (get_or mark row 0) (k + 1) g))
@@ -138,17 +148,20 @@ pub record Backing (k : ℕ) (par rows held mark₀ mark : List ℕ) (top q : �
   pub is : Along (front k par) rows [] (drop top held) q
   pub marks : Marks k mark (drop top held)
 
-pub backing_start : {k : ℕ} {par : List ℕ} (rows held : List ℕ) {mark : List ℕ} → Walks k par mark → Marks k mark [] → Backing k par rows held mark mark (length held) 0
+pub backing_start : {k : ℕ} {par : List ℕ} (rows held : List ℕ) {mark : List ℕ} → Walks k par mark → Marks k mark [] →
+    Backing k par rows held mark mark (length held) 0
 backing_start {k = k} {par = par} rows held w m =
     let n : drop (length held) held ≡ [] = drop-length held in
     record { asks = w; same = refl; within = omega arith; is = rw n (along-start (front k par) rows []); marks = rw n m }
 
 module _ {k : ℕ} {par rows held mark₀ mark : List ℕ} {top q : ℕ} (v : Backing k par rows held mark₀ mark top q) where
   pub backing_turn : {r : ℕ} {mark1 : List ℕ} → q < length rows → length mark1 ≡ length mark
-      → ((older : List ℕ) → Marks k mark older → r ≤ length (part 0 top held) → Read k par (get_or rows q 0) older (part 0 top held) r mark1) → r ≤ top → Backing k par rows held mark₀ mark1 r (q + 1)
+      → ((older : List ℕ) → Marks k mark older → r ≤ length (part 0 top held) → Read k par (get_or rows q 0) older (part 0 top held) r mark1) →
+      r ≤ top → Backing k par rows held mark₀ mark1 r (q + 1)
   backing_turn {r = r} h e w l =
       let d = w (drop top held) v.marks (omega (arith, part_long top held v.within)) in
-      let z : drop r (part 0 top held) ++ drop top held ≡ drop r held = ap (λ (x : List ℕ). drop r x ++ drop top held) (part-front top held) ∙ drop-part r top held l in
+      let z : drop r (part 0 top held) ++ drop top held ≡ drop r held = ap (λ (x : List ℕ). drop r x ++ drop top held) (part-front top held) ∙
+      drop-part r top held l in
       let s : drop r held ≡ front k par (get_or rows q 0) (drop top held) = sym z ∙ ap (λ (x : List ℕ). x ++ drop top held) (sym d.is) in
       record {
         asks = walks_on v.asks e;
@@ -174,7 +187,8 @@ pub record Reading (cols : List (List ℕ)) (up ui mark : List ℕ) (k : ℕ) : 
   pub at : (j : ℕ) → j ≤ k → get_or up j 0 ≡ entries (take j (upper cols))
   pub laid : (q : ℕ) → q < entries (take k (upper cols)) → get_or ui q 0 ≡ get_or (flatten (upper cols)) q 0
 
-pub reading_start : {cols : List (List ℕ)} {up : List ℕ} (ui : List ℕ) {mark : List ℕ} → length mark ≡ length cols → Zeros mark → get_or up 0 0 ≡ 0 → Reading cols up ui mark 0
+pub reading_start : {cols : List (List ℕ)} {up : List ℕ} (ui : List ℕ) {mark : List ℕ} → length mark ≡ length cols → Zeros mark → get_or up 0 0 ≡ 0
+    → Reading cols up ui mark 0
 unfolding entries
 reading_start {up = up} ui {mark = mark} a h z =
     record {
@@ -187,7 +201,8 @@ reading_start {up = up} ui {mark = mark} a h z =
     }
 
 module _ {cols : List (List ℕ)} {par up ui mark : List ℕ} {k : ℕ} (g : Given cols par) (v : Reading cols up ui mark k) where
-  module _ {rows mark1 : List ℕ} {b f : ℕ} (h : k < length cols) (e : rows ≡ get_or cols k []) (x : b ≡ get_or up k 0) (y : f ≡ get_or up (k + 1) 0) (o : b ≤ f) (r : f ≤ length ui) (n : length mark1 ≡ length mark)
+  module _ {rows mark1 : List ℕ} {b f : ℕ} (h : k < length cols) (e : rows ≡ get_or cols k []) (x : b ≡ get_or up k 0) (y : f ≡ get_or up (k + 1) 0)
+      (o : b ≤ f) (r : f ≤ length ui) (n : length mark1 ≡ length mark)
       (w : (part b f ui ≡ paths par k rows []) × Marks k mark1 (part b f ui)) where
     abbrev us : List (List ℕ)
     us = upper cols
@@ -217,7 +232,8 @@ module _ {cols : List (List ℕ)} {par up ui mark : List ℕ} {k : ℕ} (g : Giv
             let s : b + c ≡ q = omega arith in
             let t : entries (take k us) + c ≡ q = omega (arith, start) in
             let d : get_or (part b f ui) c 0 ≡ get_or ui (b + c) 0 = get_d_part b f ui c 0 (omega (arith, end)) in
-            ap (λ (z : ℕ). get_or ui z 0) (sym s) ∙ sym d ∙ ap (λ (z : List ℕ). get_or z c 0) column ∙ sym (laid-at us k c (omega (arith, end, size))) ∙ ap (λ (z : ℕ). get_or (flatten us) z 0) t
+            ap (λ (z : ℕ). get_or ui z 0) (sym s) ∙ sym d ∙ ap (λ (z : List ℕ). get_or z c 0) column ∙
+            sym (laid-at us k c (omega (arith, end, size))) ∙ ap (λ (z : ℕ). get_or (flatten us) z 0) t
 
     pub reading_turn : Reading cols up ui mark1 (k + 1)
     reading_turn = record { within = omega arith; m_long = n ∙ v.m_long; fresh = marks-next w.1; room = omega (arith, end); at = at; laid = laid }

@@ -10,7 +10,8 @@ use Rattle.cs_tree.specs.Pattern.{entries}
 use Rattle.cs_tree.specs.Steps.{numbers, Pointed}
 use Rattle.cs_tree.proofs.Laid.{entries-more, entries-part, numbered_at}
 
-module _ {us : List (List ℕ)} {up : List ℕ} (p : Pointed us up) {k b f : ℕ} (h : k < length us) (x : b ≡ get_or up k 0) (y : f ≡ get_or up (k + 1) 0) where
+module _ {us : List (List ℕ)} {up : List ℕ} (p : Pointed us up) {k b f : ℕ} (h : k < length us) (x : b ≡ get_or up k 0)
+    (y : f ≡ get_or up (k + 1) 0) where
   pub between_start : b ≡ entries (take k us)
   between_start = x ∙ p.at k (omega arith)
 

@@ -25,7 +25,8 @@ use Rattle.lists.proofs.Positions.{flatten_last}
 use Rattle.cs_tree.proofs.Laid.{entries-more, entries-part}
 use Rattle.cs_tree.proofs.Past.{listing_past}
 use Rattle.cs_tree.proofs.Steps.{path-over, path_seen, path_new}
-use Rattle.cs_tree.proofs.Walking.{marks_fresh, marks-next, Walk, walk_start, walk_up, walk_next, walk_seen, walk_over, not_done, walks_on, Listing, listing_start, listing_turn, listing_done, listing_all}
+use Rattle.cs_tree.proofs.Walking.{marks_fresh, marks-next, Walk, walk_start, walk_up, walk_next, walk_seen, walk_over, not_done, walks_on, Listing}
+use Rattle.cs_tree.proofs.Walking.{listing_start, listing_turn, listing_done, listing_all}
 
 -- ---- the walk from a row: what is left of the way gives, from the counts of now, what the whole way gives
 pub record Bumps (k : ℕ) (par : List ℕ) (row : ℕ) (older counts₀ counts : List ℕ) (i : ℕ) : Type 0 where
@@ -39,7 +40,8 @@ pub record Bumping (k : ℕ) (par : List ℕ) (row : ℕ) (mark₀ mark counts�
   pub kept : Kept 0 (k + 1) counts₀ counts
   pub tells : (older : List ℕ) → Marks k mark₀ older → Bumps k par row older counts₀ counts i
 
-pub bumping_start : {k : ℕ} {par : List ℕ} {row i : ℕ} {mark counts : List ℕ} → Walks k par mark → k < length counts → i ≡ row → Bumping k par row mark mark counts counts i 0
+pub bumping_start : {k : ℕ} {par : List ℕ} {row i : ℕ} {mark counts : List ℕ} → Walks k par mark → k < length counts → i ≡ row →
+    Bumping k par row mark mark counts counts i 0
 bumping_start {k = k} {counts = counts} v h e =
     record {
       walk = walk_start v e;
@@ -48,56 +50,61 @@ bumping_start {k = k} {counts = counts} v h e =
       tells = λ older m. rw e (record { fuel = suc k; goes = refl; enough = omega arith });
     }
 
-module _ {k : ℕ} {par : List ℕ} {row : ℕ} {mark₀ mark counts₀ counts : List ℕ} {i len : ℕ} (v : Bumping k par row mark₀ mark counts₀ counts i len) where
-  ended : (older : List ℕ) (m : Marks k mark₀ older) → path (v.tells older m).fuel par k i older ≡ [] → counts ≡ counted (way k par row older) counts₀
-  ended older m e = sym ((v.tells older m).goes ∙ ap (λ (l : List ℕ). counted l counts) e ∙ counted_none counts)
+module _ {k : ℕ} {par : List ℕ} {row : ℕ} {mark₀ mark counts₀ counts : List ℕ} {i len : ℕ} (v : Bumping k par row mark₀ mark counts₀ counts i len)
+  where
+    ended : (older : List ℕ) (m : Marks k mark₀ older) → path (v.tells older m).fuel par k i older ≡ [] → counts ≡ counted (way k par row older) counts₀
+    ended older m e = sym ((v.tells older m).goes ∙ ap (λ (l : List ℕ). counted l counts) e ∙ counted_none counts)
 
-  module _ (h : i ≤ k) where
-    in_par : i < length par
-    in_par = omega (arith, v.walk.asks.p_long)
+    module _ (h : i ≤ k) where
+      in_par : i < length par
+      in_par = omega (arith, v.walk.asks.p_long)
 
-    in_mark : i < length mark
-    in_mark = omega (arith, v.walk.asks.m_long)
+      in_mark : i < length mark
+      in_mark = omega (arith, v.walk.asks.m_long)
 
-    pub bump_up : i < get_or par i 0
-    bump_up = walk_up v.walk h
+      pub bump_up : i < get_or par i 0
+      bump_up = walk_up v.walk h
 
-    seen_as : (older : List ℕ) (m : Marks k mark₀ older) → get_or mark i 0 ≡ k + 1 → path (v.tells older m).fuel par k i older ≡ []
-    seen_as older m e =
-        let w = v.walk.tells older m in
-        path_seen (v.tells older m).fuel par k i older h (sym (not_done w) ∙ sym (w.marks.at i in_mark) ∙ eq-eqb (get_or mark i 0) (k + 1) e)
+      seen_as : (older : List ℕ) (m : Marks k mark₀ older) → get_or mark i 0 ≡ k + 1 → path (v.tells older m).fuel par k i older ≡ []
+      seen_as older m e =
+          let w = v.walk.tells older m in
+          path_seen (v.tells older m).fuel par k i older h (sym (not_done w) ∙ sym (w.marks.at i in_mark) ∙ eq-eqb (get_or mark i 0) (k + 1) e)
 
-    pub bumping_seen : get_or mark i 0 ≡ k + 1 → Bumped k par row len mark₀ mark counts₀ counts
-    bumping_seen e = let w = walk_seen v.walk h e in (w.0, v.kept, λ older m. (w.1 older m, ended older m (seen_as older m e)))
+      pub bumping_seen : get_or mark i 0 ≡ k + 1 → Bumped k par row len mark₀ mark counts₀ counts
+      bumping_seen e = let w = walk_seen v.walk h e in (w.0, v.kept, λ older m. (w.1 older m, ended older m (seen_as older m e)))
 
-    pub bumping_next : {n x : ℕ} → (get_or mark i 0 ≡ k + 1 → ⊥) → n ≡ get_or par i 0 → x ≡ (get_or counts i 0 + 1) % 2 ^ 32 → Bumping k par row mark₀ (set mark i (k + 1)) counts₀ (set counts i x) n (len + 1)
-    unfolding bumped
-    bumping_next {n = n} {x = x} e f g =
-        record {
-          walk = walk_next v.walk h e f;
-          wide = rw length-set v.wide;
-          kept = kept_then v.kept (record { long = length-set counts i x; rest = λ q l. get_or-set_other counts i q x 0 (λ y. omega arith) });
-          tells = λ older m. go older m (v.tells older m).fuel (v.tells older m).goes (v.tells older m).enough;
-        }
-      where
-        new : (older : List ℕ) → Marks k mark₀ older → lists i older ≡ false
-        new older m = let w = v.walk.tells older m in sym (not_done w) ∙ sym (w.marks.at i in_mark) ∙ ne_eqb (get_or mark i 0) (k + 1) e
+      pub bumping_next : {n x : ℕ} → (get_or mark i 0 ≡ k + 1 → ⊥) → n ≡ get_or par i 0 → x ≡ (get_or counts i 0 + 1) % 2 ^ 32 →
+          Bumping k par row mark₀ (set mark i (k + 1)) counts₀ (set counts i x) n (len + 1)
+      unfolding bumped
+      bumping_next {n = n} {x = x} e f g =
+          record {
+            walk = walk_next v.walk h e f;
+            wide = rw length-set v.wide;
+            kept = kept_then v.kept (record { long = length-set counts i x; rest = λ q l. get_or-set_other counts i q x 0 (λ y. omega arith) });
+            tells = λ older m. go older m (v.tells older m).fuel (v.tells older m).goes (v.tells older m).enough;
+          }
+        where
+          new : (older : List ℕ) → Marks k mark₀ older → lists i older ≡ false
+          new older m = let w = v.walk.tells older m in sym (not_done w) ∙ sym (w.marks.at i in_mark) ∙ ne_eqb (get_or mark i 0) (k + 1) e
 
-        same : get_or par i root ≡ n
-        same = get_d_any par i root 0 in_par ∙ sym f
+          same : get_or par i root ≡ n
+          same = get_d_any par i root 0 in_par ∙ sym f
 
-        go : (older : List ℕ) → Marks k mark₀ older → (d : ℕ) → counted (way k par row older) counts₀ ≡ counted (path d par k i older) counts → k < i + d → Bumps k par row older counts₀ (set counts i x) n
-        go older m zero p q = absurd (omega arith)
-        go older m (suc d) p q =
-            record {
-              fuel = d;
-              goes = p ∙ ap (λ (l : List ℕ). counted l counts) (path_new d par k i older h (new older m) ∙ ap (λ (y : ℕ). i ∷ path d par k y older) same) ∙ counted-one i (path d par k n older) counts
-                  ∙ ap (λ (y : ℕ). counted (path d par k n older) (set counts i y)) (sym g);
-              enough = omega (arith, bump_up);
-            }
+          go : (older : List ℕ) → Marks k mark₀ older → (d : ℕ) → counted (way k par row older) counts₀ ≡ counted (path d par k i older) counts →
+              k < i + d → Bumps k par row older counts₀ (set counts i x) n
+          go older m zero p q = absurd (omega arith)
+          go older m (suc d) p q =
+              record {
+                fuel = d;
+                goes = p ∙ ap (λ (l : List ℕ). counted l counts) (path_new d par k i older h (new older m) ∙
+                    ap (λ (y : ℕ). i ∷ path d par k y older) same) ∙ counted-one i (path d par k n older) counts
+                    ∙ ap (λ (y : ℕ). counted (path d par k n older) (set counts i y)) (sym g);
+                enough = omega (arith, bump_up);
+              }
 
-  pub bumping_over : k < i → Bumped k par row len mark₀ mark counts₀ counts
-  bumping_over h = let w = walk_over v.walk h in (w.0, v.kept, λ older m. (w.1 older m, ended older m (path-over (v.tells older m).fuel par k i older h)))
+    pub bumping_over : k < i → Bumped k par row len mark₀ mark counts₀ counts
+    bumping_over h = let w = walk_over v.walk h in
+        (w.0, v.kept, λ older m. (w.1 older m, ended older m (path-over (v.tells older m).fuel par k i older h)))
 
 -- ---- row by row
 pub record Rowing (k : ℕ) (par rows mark₀ mark counts₀ counts : List ℕ) (count q : ℕ) : Type 0 where
@@ -109,13 +116,23 @@ pub record Rowing (k : ℕ) (par rows mark₀ mark counts₀ counts : List ℕ) 
   pub is : Listing k k par rows mark count q
   pub are : counts ≡ counted is.older counts₀
 
-pub rowing_start : {k : ℕ} {par : List ℕ} (rows : List ℕ) {mark counts : List ℕ} → Walks k par mark → Marks k mark [] → k < length counts → Rowing k par rows mark mark counts counts 0 0
+pub rowing_start : {k : ℕ} {par : List ℕ} (rows : List ℕ) {mark counts : List ℕ} → Walks k par mark → Marks k mark [] → k < length counts →
+    Rowing k par rows mark mark counts counts 0 0
 unfolding listing_start
 rowing_start {k = k} rows {counts = counts} v m h =
-    record { asks = v; same = refl; wide = h; kept = kept-all (k + 1) counts; fits = omega arith; is = listing_start rows m; are = sym (counted_none counts) }
+    record {
+      asks = v;
+      same = refl;
+      wide = h;
+      kept = kept-all (k + 1) counts;
+      fits = omega arith;
+      is = listing_start rows m;
+      are = sym (counted_none counts);
+    }
 
 module _ {k : ℕ} {par rows mark₀ mark counts₀ counts : List ℕ} {count q : ℕ} (v : Rowing k par rows mark₀ mark counts₀ counts count q) where
-  pub rowing_turn : {len : ℕ} {mark1 counts1 : List ℕ} → q < length rows → length mark1 ≡ length mark → Bumped k par (get_or rows q 0) len mark mark1 counts counts1
+  pub rowing_turn : {len : ℕ} {mark1 counts1 : List ℕ} → q < length rows → length mark1 ≡ length mark →
+      Bumped k par (get_or rows q 0) len mark mark1 counts counts1
       → Rowing k par rows mark₀ mark1 counts₀ counts1 (count + len) (q + 1)
   unfolding listing_turn
   rowing_turn h e w =
@@ -155,7 +172,8 @@ pub record Totting (cols : List (List ℕ)) (counts₀ mark counts : List ℕ) (
   pub sum : total ≡ entries (take k (upper cols))
   pub are : counts ≡ counted (flatten (take k (upper cols))) counts₀
 
-pub totting_start : {cols : List (List ℕ)} {mark counts : List ℕ} → length mark ≡ length cols → length cols ≤ length counts → Zeros mark → Totting cols counts mark counts 0 0
+pub totting_start : {cols : List (List ℕ)} {mark counts : List ℕ} → length mark ≡ length cols → length cols ≤ length counts → Zeros mark →
+    Totting cols counts mark counts 0 0
 unfolding entries flatten
 totting_start {cols = cols} {mark = mark} {counts = counts} a b h =
     record {
@@ -169,48 +187,52 @@ totting_start {cols = cols} {mark = mark} {counts = counts} a b h =
       are = sym (counted_none counts);
     }
 
-module _ {cols : List (List ℕ)} {par counts₀ mark counts : List ℕ} {total k : ℕ} (g : Given cols par) (v : Totting cols counts₀ mark counts total k) where
-  module _ {rows : List ℕ} {c : ℕ} {mark1 counts1 : List ℕ} (h : k < length cols) (e : rows ≡ get_or cols k []) (l : length mark1 ≡ length mark) (r : Tallied k par rows c mark1 counts counts1) where
-    column-is : paths par k rows [] ≡ get_or (upper cols) k []
-    column-is = given-column g k e
+module _ {cols : List (List ℕ)} {par counts₀ mark counts : List ℕ} {total k : ℕ} (g : Given cols par) (v : Totting cols counts₀ mark counts total k)
+  where
+    module _ {rows : List ℕ} {c : ℕ} {mark1 counts1 : List ℕ} (h : k < length cols) (e : rows ≡ get_or cols k []) (l : length mark1 ≡ length mark)
+        (r : Tallied k par rows c mark1 counts counts1) where
+      column-is : paths par k rows [] ≡ get_or (upper cols) k []
+      column-is = given-column g k e
 
-    count_is : c ≡ length (get_or (upper cols) k [])
-    count_is = r.size ∙ ap length column-is
+      count_is : c ≡ length (get_or (upper cols) k [])
+      count_is = r.size ∙ ap length column-is
 
-    pub tot_small : c ≤ 65535
-    tot_small = omega (arith, count_is, column-short g k, g.small)
+      pub tot_small : c ≤ 65535
+      tot_small = omega (arith, count_is, column-short g k, g.small)
 
-    more : total + c ≡ entries (take (k + 1) (upper cols))
-    more = omega (arith, v.sum, count_is, entries-more (upper cols) k (rw (upper_long g) h))
+      more : total + c ≡ entries (take (k + 1) (upper cols))
+      more = omega (arith, v.sum, count_is, entries-more (upper cols) k (rw (upper_long g) h))
 
-    pub tot_kept : Kept 0 (length cols) counts₀ counts1
-    tot_kept = kept_then v.kept (kept-wider (length cols) (omega arith) r.kept)
+      pub tot_kept : Kept 0 (length cols) counts₀ counts1
+      tot_kept = kept_then v.kept (kept-wider (length cols) (omega arith) r.kept)
 
-    counts_are : counts1 ≡ counted (flatten (take (k + 1) (upper cols))) counts₀
-    counts_are =
-        let s : take (k + 1) (upper cols) ≡ take k (upper cols) ++ (get_or (upper cols) k [] ∷ []) = rw add-one (take-suc (upper cols) k [] (rw (upper_long g) h)) in
-        r.are ∙ ap (λ (d : List ℕ). counted d counts) column-is ∙ ap (counted (get_or (upper cols) k [])) v.are
-        ∙ sym (counted-append (flatten (take k (upper cols))) (get_or (upper cols) k []) counts₀)
-        ∙ ap (λ (d : List ℕ). counted d counts₀) (sym (ap flatten s ∙ flatten_last (take k (upper cols)) (get_or (upper cols) k [])))
+      counts_are : counts1 ≡ counted (flatten (take (k + 1) (upper cols))) counts₀
+      counts_are =
+          let s : take (k + 1) (upper cols) ≡ take k (upper cols) ++ (get_or (upper cols) k [] ∷ []) =
+          rw add-one (take-suc (upper cols) k [] (rw (upper_long g) h)) in
+          r.are ∙ ap (λ (d : List ℕ). counted d counts) column-is ∙ ap (counted (get_or (upper cols) k [])) v.are
+          ∙ sym (counted-append (flatten (take k (upper cols))) (get_or (upper cols) k []) counts₀)
+          ∙ ap (λ (d : List ℕ). counted d counts₀) (sym (ap flatten s ∙ flatten_last (take k (upper cols)) (get_or (upper cols) k [])))
 
-    pub totting_turn : total + c ≤ 4194304 → Totting cols counts₀ mark1 counts1 (total + c) (k + 1)
-    totting_turn f =
-        record {
-          within = omega arith;
-          m_long = l ∙ v.m_long;
-          wide = omega (arith, r.kept.long, v.wide);
-          kept = tot_kept;
-          fresh = marks-next r.marks;
-          few = f;
-          sum = more;
-          are = counts_are;
-        }
+      pub totting_turn : total + c ≤ 4194304 → Totting cols counts₀ mark1 counts1 (total + c) (k + 1)
+      totting_turn f =
+          record {
+            within = omega arith;
+            m_long = l ∙ v.m_long;
+            wide = omega (arith, r.kept.long, v.wide);
+            kept = tot_kept;
+            fresh = marks-next r.marks;
+            few = f;
+            sum = more;
+            are = counts_are;
+          }
 
-    pub totting_stop : 4194304 < total + c → 4194305 ≡ min (entries (upper cols)) 4194305
-    totting_stop f = omega (arith, more, entries-part (upper cols) (k + 1))
+      pub totting_stop : 4194304 < total + c → 4194305 ≡ min (entries (upper cols)) 4194305
+      totting_stop f = omega (arith, more, entries-part (upper cols) (k + 1))
 
-  pub totting_done : length cols ≤ k → (total ≡ min (entries (upper cols)) 4194305) × Kept 0 (length cols) counts₀ counts × (total ≤ 4194304 → counts ≡ counted (flatten (upper cols)) counts₀)
-  totting_done h =
-      let t : take k (upper cols) ≡ upper cols = take_all k (upper cols) (omega (arith, v.within, upper_long g)) in
-      let s : total ≡ entries (upper cols) = v.sum ∙ ap entries t in
-      (omega (arith, v.few), v.kept, λ m. v.are ∙ ap (λ (d : List (List ℕ)). counted (flatten d) counts₀) t)
+    pub totting_done : length cols ≤ k → (total ≡ min (entries (upper cols)) 4194305) × Kept 0 (length cols) counts₀ counts ×
+        (total ≤ 4194304 → counts ≡ counted (flatten (upper cols)) counts₀)
+    totting_done h =
+        let t : take k (upper cols) ≡ upper cols = take_all k (upper cols) (omega (arith, v.within, upper_long g)) in
+        let s : total ≡ entries (upper cols) = v.sum ∙ ap entries t in
+        (omega (arith, v.few), v.kept, λ m. v.are ∙ ap (λ (d : List (List ℕ)). counted (flatten d) counts₀) t)

@@ -103,7 +103,8 @@ pub record Rows (k : ℕ) (rows t₀ a₀ t a : List ℕ) (q : ℕ) : Type 0 whe
 pub rows_start : {k : ℕ} (rows : List ℕ) {t a : List ℕ} → Climbs k t a → Rows k rows t a t a 0
 rows_start {k = k} rows {t = t} {a = a} v = record { asks = v; t_same = refl; a_same = refl; is = along-start (climb k k) rows (forest t a) }
 
-pub rows-turn : {k : ℕ} {rows t₀ a₀ t a t1 a1 : List ℕ} {q i : ℕ} → Rows k rows t₀ a₀ t a q → q < length rows → i ≡ get_or rows q 0 → Climbed k t a t1 a1 i → Rows k rows t₀ a₀ t1 a1 (q + 1)
+pub rows-turn : {k : ℕ} {rows t₀ a₀ t a t1 a1 : List ℕ} {q i : ℕ} → Rows k rows t₀ a₀ t a q → q < length rows → i ≡ get_or rows q 0 →
+    Climbed k t a t1 a1 i → Rows k rows t₀ a₀ t1 a1 (q + 1)
 rows-turn {k = k} {rows = rows} {t = t} {a = a} v h e w =
     record {
       asks = w.asks;

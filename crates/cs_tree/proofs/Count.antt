@@ -57,7 +57,8 @@ hits_one x c a (suc m) l h n = elim (ℕ_discrete a x) [
 
 hits_length : {c : List ℕ} (m : ℕ) → Once c → ((x : ℕ) → Memᴰ x c → x < m) → hits c 0 m ≡ length c
 hits_length m no_more h = hits_nil 0 m
-hits_length m (one_more {x = x} {xs = xs} n d) h = hits_one x xs 0 m (omega arith) (omega (arith, h x (Memᴰ.head refl))) n ∙ ap suc (hits_length m d (λ y t. h y (Memᴰ.tail t)))
+hits_length m (one_more {x = x} {xs = xs} n d) h = hits_one x xs 0 m (omega arith) (omega (arith, h x (Memᴰ.head refl))) n ∙
+    ap suc (hits_length m d (λ y t. h y (Memᴰ.tail t)))
 
 -- pigeons
 pub once-fits : {c : List ℕ} (m : ℕ) → Once c → ((x : ℕ) → Memᴰ x c → x < m) → length c ≤ m
@@ -67,7 +68,8 @@ length-across : (j b : ℕ) (c : List ℕ) (cs : List (List ℕ)) → length (ac
 unfolding across bit
 length-across j b c cs = elim (listed-or-not j c) [ inl q ↦ rw (q.0, across) (omega arith) | inr q ↦ rw (q.0, across) (omega arith) ]
 
-entries-row : (b a m : ℕ) (c : List ℕ) (cs : List (List ℕ)) → entries (from (λ j. across j b (c ∷ cs)) a m) ≡ hits c a m + entries (from (λ j. across j (suc b) cs) a m)
+entries-row : (b a m : ℕ) (c : List ℕ) (cs : List (List ℕ)) → entries (from (λ j. across j b (c ∷ cs)) a m)
+    ≡ hits c a m + entries (from (λ j. across j (suc b) cs) a m)
 unfolding entries from hits
 entries-row b a zero c cs = omega arith
 entries-row b a (suc m) c cs = omega (arith, length-across a b c cs, entries-row b (suc a) m c cs)
@@ -77,10 +79,16 @@ unfolding entries from across
 entries_none b a zero = refl
 entries_none b a (suc m) = omega (arith, entries_none b (suc a) m)
 
-pub entries-across : (b m : ℕ) (us : List (List ℕ)) → ((k : ℕ) → Once (get_or us k [])) → ((k x : ℕ) → Memᴰ x (get_or us k []) → x < m) → entries (from (λ j. across j b us) 0 m) ≡ entries us
+pub entries-across : (b m : ℕ) (us : List (List ℕ)) → ((k : ℕ) → Once (get_or us k [])) → ((k x : ℕ) → Memᴰ x (get_or us k []) → x < m) →
+    entries (from (λ j. across j b us) 0 m) ≡ entries us
 unfolding entries
 entries-across b m [] d h = entries_none b 0 m
-entries-across b m (c ∷ cs) d h = omega (arith, entries-row b 0 m c cs, hits_length m (d 0) (h 0), entries-across (suc b) m cs (λ k. d (suc k)) (λ k. h (suc k)))
+entries-across b m (c ∷ cs) d h = omega (
+  arith,
+  entries-row b 0 m c cs,
+  hits_length m (d 0) (h 0),
+  entries-across (suc b) m cs (λ k. d (suc k)) (λ k. h (suc k)),
+)
 
 module _ (cols : List (List ℕ)) (fits : length cols ≤ root) where
   pub upper_column-short : (k : ℕ) → length (upper_column cols k) ≤ suc k

@@ -22,7 +22,8 @@ use Rattle.cs_tree.specs.Steps.{Marks, Walks, Given, numbers}
 use Rattle.cs_tree.specs.Falling.{Reached, Last, Left, Ending, Ample}
 use Rattle.cs_tree.proofs.Count.{length-starts}
 use Rattle.cs_tree.proofs.Filling.{fits, given_walks, given-column, upper_long}
-use Rattle.cs_tree.proofs.Laid.{entries-more, entries-part, start-at, length-laid, length-numbers, laid-at, numbered_at, length-transposed, laid-transposed, transposed-start}
+use Rattle.cs_tree.proofs.Laid.{entries-more, entries-part, start-at, length-laid, length-numbers, laid-at, numbered_at, length-transposed}
+use Rattle.cs_tree.proofs.Laid.{laid-transposed, transposed-start}
 use Rattle.cs_tree.proofs.Laws.{fill_upper}
 use Rattle.cs_tree.proofs.Lowering.{laid-below}
 use Rattle.cs_tree.proofs.Promises.{promised, filled}
@@ -35,7 +36,8 @@ Putting k rows next₀ li₀ next li q = (s : Last k rows next₀ li₀) → Lef
 pub putting_start : {k : ℕ} {rows next li : List ℕ} → Putting k rows next li next li (length rows)
 putting_start s = s.is
 
-module _ {k : ℕ} {rows next₀ li₀ next li : List ℕ} {q : ℕ} (v : Putting k rows next₀ li₀ next li q) (h : 0 < q) (b : q ≤ length rows) {j : ℕ} (e : j ≡ get_or rows (q - 1) 0) where
+module _ {k : ℕ} {rows next₀ li₀ next li : List ℕ} {q : ℕ} (v : Putting k rows next₀ li₀ next li q) (h : 0 < q) (b : q ≤ length rows) {j : ℕ}
+    (e : j ≡ get_or rows (q - 1) 0) where
   module _ (s : Last k rows next₀ li₀) where
     abbrev at : ℕ
     at = s.at + (q - 1)
@@ -109,7 +111,8 @@ module _ {cols : List (List ℕ)} {par : List ℕ} (g : Given cols par) where
         w_long = omega (arith, e.long, lower-size);
         ends =
             λ j l.
-            e.at j (omega (arith, lower-size)) ∙ ap (λ (x : ℕ). entries (take x (transposed us))) (add-one j) ∙ sym (start-at (transposed us) (suc j) (omega (arith, lower-size)))
+            e.at j (omega (arith, lower-size)) ∙ ap (λ (x : ℕ). entries (take x (transposed us))) (add-one j) ∙
+            sym (start-at (transposed us) (suc j) (omega (arith, lower-size)))
             ∙ transposed-start us upper-once (suc j) (omega (arith, upper_long g));
         room = omega (arith, whole-front);
       }
@@ -117,7 +120,8 @@ module _ {cols : List (List ℕ)} {par : List ℕ} (g : Given cols par) where
   all : take n us ≡ us
   all = take_all n us (omega (arith, upper_long g))
 
-  started : {t : ℕ} {mark up ui next li : List ℕ} → length mark ≡ n → Zeros mark → Ample cols t up ui next li → Falling cols (set up n t) ui next li mark (set up n t) ui next li t n
+  started : {t : ℕ} {mark up ui next li : List ℕ} → length mark ≡ n → Zeros mark → Ample cols t up ui next li →
+      Falling cols (set up n t) ui next li mark (set up n t) ui next li t n
   unfolding flatten lower
   started {t = t} {mark = mark} {up = up} {ui = ui} a z r =
       let e = r.size in
@@ -139,7 +143,8 @@ module _ {cols : List (List ℕ)} {par : List ℕ} (g : Given cols par) where
         put = rw (← l) (receding_start (ends r.ends (omega (arith, r.li_room))));
       }
 
-  pub falling_start : {t k : ℕ} {mark up ui next li : List ℕ} → k ≡ n → length mark ≡ n → Zeros mark → Ample cols t up ui next li → Falling cols (set up k t) ui next li mark (set up k t) ui next li t k
+  pub falling_start : {t k : ℕ} {mark up ui next li : List ℕ} → k ≡ n → length mark ≡ n → Zeros mark → Ample cols t up ui next li →
+      Falling cols (set up k t) ui next li mark (set up k t) ui next li t k
   falling_start e a z r = rw e (started a z r)
 
   module _ {up₀ ui₀ next₀ li₀ mark up ui next li : List ℕ} {top k : ℕ} (v : Falling cols up₀ ui₀ next₀ li₀ mark up ui next li top k) where
@@ -166,7 +171,8 @@ module _ {cols : List (List ℕ)} {par : List ℕ} (g : Given cols par) where
       column-is = given-column g j x
 
       more : top ≡ entries (take j us) + length col
-      more = let z : k ≡ j + 1 = omega arith in omega (arith, v.top_is, ap (λ (q : ℕ). entries (take q us)) z, entries-more us j (rw (upper_long g) j_in))
+      more = let z : k ≡ j + 1 = omega arith in
+          omega (arith, v.top_is, ap (λ (q : ℕ). entries (take q us)) z, entries-more us j (rw (upper_long g) j_in))
 
       pub fall_room : length (paths par j rows []) ≤ top
       fall_room = omega (arith, ap length column-is, more)
@@ -182,7 +188,8 @@ module _ {cols : List (List ℕ)} {par : List ℕ} (g : Given cols par) where
         fall_end = omega (arith, fall_inside)
 
         part-is : part low top ui1 ≡ col
-        part-is = ap (take (top - low)) (r.back ∙ ap (λ (y : List ℕ). y ++ drop top ui) column-is) ∙ take_at col (drop top ui) (top - low) (omega (arith, more, low_is))
+        part-is = ap (take (top - low)) (r.back ∙ ap (λ (y : List ℕ). y ++ drop top ui) column-is) ∙
+            take_at col (drop top ui) (top - low) (omega (arith, more, low_is))
 
         pub fall_last : Last j (part low top ui1) next li
         fall_last =
@@ -199,7 +206,8 @@ module _ {cols : List (List ℕ)} {par : List ℕ} (g : Given cols par) where
               numbered = λ q m. numbered_at 0 us j q (omega (arith, ap length part-is)) ∙ (let y : 0 + j ≡ j = omega arith in y);
             }
 
-        pub falling_turn : {next1 li1 : List ℕ} → length mark1 ≡ length mark → ((a : Last j (part low top ui1) next li) → Left j (part low top ui1) next li a next1 li1 0)
+        pub falling_turn : {next1 li1 : List ℕ} → length mark1 ≡ length mark →
+            ((a : Last j (part low top ui1) next li) → Left j (part low top ui1) next li a next1 li1 0)
             → Falling cols up₀ ui₀ next₀ li₀ mark1 (set up j low) ui1 next1 li1 low j
         unfolding flatten fall_last
         falling_turn a w =
@@ -248,8 +256,10 @@ module _ {cols : List (List ℕ)} {par : List ℕ} (g : Given cols par) where
   -- the last pointer was written first
   over_last : (up : List ℕ) (m t : ℕ) → m ≡ n → onto (set up m t) (starts 0 us) ≡ onto up (starts 0 us)
   unfolding onto
-  over_last up m t e = ap (λ (d : List ℕ). starts 0 us ++ d) (drop-set-lt (length (starts 0 us)) up m t (omega (arith, length-starts 0 us, upper_long g)))
+  over_last up m t e = ap (λ (d : List ℕ). starts 0 us ++ d)
+      (drop-set-lt (length (starts 0 us)) up m t (omega (arith, length-starts 0 us, upper_long g)))
 
-  pub falling_done : (up₀ : List ℕ) (t : ℕ) {m : ℕ} {ui₀ next₀ li₀ mark up ui next li : List ℕ} {top k : ℕ} → m ≡ n → Falling cols (set up₀ m t) ui₀ next₀ li₀ mark up ui next li top k → k ≡ 0
+  pub falling_done : (up₀ : List ℕ) (t : ℕ) {m : ℕ} {ui₀ next₀ li₀ mark up ui next li : List ℕ} {top k : ℕ} → m ≡ n →
+      Falling cols (set up₀ m t) ui₀ next₀ li₀ mark up ui next li top k → k ≡ 0
       → (up ≡ onto up₀ (starts 0 us)) × (ui ≡ onto ui₀ (flatten us)) × (li ≡ onto li₀ (flatten (lower cols)))
   falling_done up₀ t {m = m} e v h = let d = done v h in (d.0 ∙ over_last up₀ m t e, d.1, d.2)

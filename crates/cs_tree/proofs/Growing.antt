@@ -32,7 +32,8 @@ pub record Growing (cols : List (List ℕ)) (par anc : List ℕ) (k : ℕ) : Typ
   pub within : k ≤ length cols
   pub is : forest par anc ≡ tree_to cols k
 
-pub growing_start : (cols : List (List ℕ)) {n : ℕ} (p a : List ℕ) {par anc : List ℕ} → length cols ≤ root → n ≡ length cols → length p ≡ n → length a ≡ n → par ≡ cleared 4294967295 n p → anc ≡ cleared 4294967295 n a → Growing cols par anc 0
+pub growing_start : (cols : List (List ℕ)) {n : ℕ} (p a : List ℕ) {par anc : List ℕ} → length cols ≤ root → n ≡ length cols → length p ≡ n →
+    length a ≡ n → par ≡ cleared 4294967295 n p → anc ≡ cleared 4294967295 n a → Growing cols par anc 0
 unfolding root tree_to
 growing_start cols {n} p a h l b c e f =
     let x : replicate n root ≡ replicate (length cols) root = ap (λ (k : ℕ). replicate k root) l in
@@ -50,12 +51,14 @@ module _ {cols : List (List ℕ)} {par anc : List ℕ} {k : ℕ} (v : Growing co
   anc_above : Above anc
   anc_above =
       above_of anc (omega (arith, anc_long, v.fits))
-      (λ i e. let q = ap (λ (s : Forest). get_or s.anc i root) v.is in rw q ((tree-done cols k v.within (omega (arith, v.within, v.fits))).sound.jump i (rw q at e)).0)
+      (λ i e. let q = ap (λ (s : Forest). get_or s.anc i root) v.is in
+      rw q ((tree-done cols k v.within (omega (arith, v.within, v.fits))).sound.jump i (rw q at e)).0)
 
   pub growing_asks : k < length cols → Climbs k par anc
   growing_asks h = record { p_long = omega (arith, par_long); a_long = omega (arith, anc_long); above = anc_above }
 
-  pub growing_turn : {rows par1 anc1 : List ℕ} → k < length cols → rows ≡ get_or cols k [] → forest par1 anc1 ≡ climbs k rows (forest par anc) → Growing cols par1 anc1 (k + 1)
+  pub growing_turn : {rows par1 anc1 : List ℕ} → k < length cols → rows ≡ get_or cols k [] → forest par1 anc1 ≡ climbs k rows (forest par anc) →
+      Growing cols par1 anc1 (k + 1)
   unfolding tree_to
   growing_turn h e f = record { fits = v.fits; within = omega arith; is = rw add-one (f ∙ (rw (e, v.is))) }
 

@@ -74,7 +74,8 @@ lengths-at (c ∷ cs) zero = refl
 lengths-at (c ∷ cs) (suc k) = lengths-at cs k
 
 -- ---- what stands at the q-th place of column k
-pub laid-at : (us : List (List ℕ)) (k q : ℕ) → q < length (get_or us k []) → get_or (flatten us) (entries (take k us) + q) 0 ≡ get_or (get_or us k []) q 0
+pub laid-at : (us : List (List ℕ)) (k q : ℕ) → q < length (get_or us k []) → get_or (flatten us) (entries (take k us) + q) 0
+    ≡ get_or (get_or us k []) q 0
 unfolding flatten entries
 laid-at [] k q h = absurd (omega arith)
 laid-at (c ∷ cs) zero q h = let e : 0 + q ≡ q = omega arith in rw e (get_or-append c (flatten cs) 0 q h)
@@ -89,13 +90,20 @@ numbered_at b (c ∷ cs) zero q h =
     let e : 0 + q ≡ q = omega arith in
     rw (e, get_or-append (replicate (length c) b) (numbers (suc b) cs) 0 q (rw length-replicate h), get_or-replicate (length c) q b 0 h) (omega arith)
 numbered_at b (c ∷ cs) (suc k) q h =
-    let e : length c + entries (take k cs) + q ≡ length (replicate (length c) b) + (entries (take k cs) + q) = omega (arith, length-replicate (length c) b) in
-    rw e (get_or-append-add (replicate (length c) b) (numbers (suc b) cs) (entries (take k cs) + q) 0 ∙ numbered_at (suc b) cs k q h ∙ (let z : suc b + k ≡ b + suc k = omega arith in z))
+    let e : length c + entries (take k cs) + q ≡ length (replicate (length c) b) + (entries (take k cs) + q) =
+    omega (arith, length-replicate (length c) b) in
+    rw e (get_or-append-add (replicate (length c) b) (numbers (suc b) cs) (entries (take k cs) + q) 0 ∙ numbered_at (suc b) cs k q h ∙
+    (let z : suc b + k ≡ b + suc k = omega arith in z))
 
 pub length-numbers : (b : ℕ) (us : List (List ℕ)) → length (numbers b us) ≡ entries us
 unfolding numbers entries
 length-numbers b [] = refl
-length-numbers b (c ∷ cs) = omega (arith, length-append (replicate (length c) b) (numbers (suc b) cs), length-replicate (length c) b, length-numbers (suc b) cs)
+length-numbers b (c ∷ cs) = omega (
+  arith,
+  length-append (replicate (length c) b) (numbers (suc b) cs),
+  length-replicate (length c) b,
+  length-numbers (suc b) cs,
+)
 
 -- ---- the transpose: the columns that hold row j, found entry by entry
 key_skip : (j b : ℕ) (c : List ℕ) (ks xs : List ℕ) → ¬ Memᴰ j c → of_key j (c ++ ks) (replicate (length c) b ++ xs) ≡ of_key j ks xs
@@ -109,7 +117,8 @@ key_hit j b ks xs no_more m = absurd (Memᴰ.not-nil m)
 key_hit j b ks xs (one_more {x = x} {xs = c} n o) m = go (ℕ_discrete x j) m (key_hit j b ks xs o)
   where
     go : Dec (x ≡ j) → Memᴰ j (x ∷ c) → (Memᴰ j c → of_key j (c ++ ks) (replicate (length c) b ++ xs) ≡ b ∷ of_key j ks xs)
-        → cond (eqb x j) (b ∷ of_key j (c ++ ks) (replicate (length c) b ++ xs)) (of_key j (c ++ ks) (replicate (length c) b ++ xs)) ≡ b ∷ of_key j ks xs
+        → cond (eqb x j) (b ∷ of_key j (c ++ ks) (replicate (length c) b ++ xs)) (of_key j (c ++ ks) (replicate (length c) b ++ xs))
+        ≡ b ∷ of_key j ks xs
     go (yes e) t ih = rw (eq-eqb x j e) (ap (λ (l : List ℕ). b ∷ l) (key_skip j b c ks xs (rw e at n)))
     go (no d) t ih = rw (ne_eqb x j d) (ih (after t))
       where
@@ -120,7 +129,8 @@ pub across-keys : (j b : ℕ) (us : List (List ℕ)) → ((k : ℕ) → Once (ge
 unfolding across flatten numbers of_key
 across-keys j b [] o = refl
 across-keys j b (c ∷ cs) o = elim (listed-or-not j c) [
-  | inl q ↦ rw (q.0, across) (ap (λ (l : List ℕ). b ∷ l) (across-keys j (suc b) cs (λ k. o (suc k))) ∙ sym (key_hit j b (flatten cs) (numbers (suc b) cs) (o 0) q.1))
+  | inl q ↦ rw (q.0, across) (ap (λ (l : List ℕ). b ∷ l) (across-keys j (suc b) cs (λ k. o (suc k))) ∙
+      sym (key_hit j b (flatten cs) (numbers (suc b) cs) (o 0) q.1))
   | inr q ↦ rw (q.0, across) (across-keys j (suc b) cs (λ k. o (suc k)) ∙ sym (key_skip j b c (flatten cs) (numbers (suc b) cs) q.1))
 ]
 
@@ -129,7 +139,8 @@ module _ (f : ℕ → List ℕ) where
   from_more : (b n : ℕ) → from f b (suc n) ≡ from f b n ++ (f (b + n) ∷ [])
   unfolding from
   from_more b zero = rw add-zero
-  from_more b (suc n) = let e : suc b + n ≡ b + suc n = omega arith in ap (λ (l : List (List ℕ)). f b ∷ l) (from_more (suc b) n ∙ ap (λ (x : ℕ). from f (suc b) n ++ (f x ∷ [])) e)
+  from_more b (suc n) = let e : suc b + n ≡ b + suc n = omega arith in
+      ap (λ (l : List (List ℕ)). f b ∷ l) (from_more (suc b) n ∙ ap (λ (x : ℕ). from f (suc b) n ++ (f x ∷ [])) e)
 
   table_more : (n : ℕ) → table (suc n) f ≡ table n f ++ (f n ∷ [])
   table_more n = let e : 0 + n ≡ n = omega arith in rw e at (from_more 0 n)
@@ -143,7 +154,8 @@ module _ (f : ℕ → List ℕ) where
 pub flatten_keys : (ks xs : List ℕ) (n : ℕ) → flatten (table n (λ j. of_key j ks xs)) ≡ by_key n ks xs
 unfolding by_key flatten from
 flatten_keys ks xs zero = refl
-flatten_keys ks xs (suc n) = ap flatten (table_more (λ j. of_key j ks xs) n) ∙ flatten_last (table n (λ j. of_key j ks xs)) (of_key n ks xs) ∙ ap (λ (l : List ℕ). l ++ of_key n ks xs) (flatten_keys ks xs n)
+flatten_keys ks xs (suc n) = ap flatten (table_more (λ j. of_key j ks xs) n) ∙ flatten_last (table n (λ j. of_key j ks xs)) (of_key n ks xs) ∙
+    ap (λ (l : List ℕ). l ++ of_key n ks xs) (flatten_keys ks xs n)
 
 module _ (us : List (List ℕ)) (o : (k : ℕ) → Once (get_or us k [])) where
   abbrev ks : List ℕ
@@ -173,4 +185,5 @@ module _ (us : List (List ℕ)) (o : (k : ℕ) → Once (get_or us k [])) where
       ∙ ap length (flatten_keys ks xs k)
 
   pub transposed-length : (j : ℕ) → j < length us → get_or (lengths (transposed us)) j 0 ≡ length (of_key j ks xs)
-  transposed-length j h = lengths-at (transposed us) j ∙ ap (λ (l : List (List ℕ)). length (get_or l j [])) transposed-keys ∙ ap length (get_or-table (length us) (λ j. of_key j ks xs) j [] h)
+  transposed-length j h = lengths-at (transposed us) j ∙ ap (λ (l : List (List ℕ)). length (get_or l j [])) transposed-keys ∙
+      ap length (get_or-table (length us) (λ j. of_key j ks xs) j [] h)

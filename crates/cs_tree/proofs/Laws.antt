@@ -25,7 +25,8 @@ fill_least cols R s c d (cross {j = j} {k = k} i l l' a b) = c i j k l l' (fill_
 fill_least cols R s c d (diag {k = k} i e l a) = rw e (d i k l (fill_least cols R s c d a))
 
 -- monotone
-pub fill_mono : (xs ys : List (List ℕ)) → ((i k : ℕ) → i ≤ k → Memᴰ i (get_or xs k []) → Memᴰ i (get_or ys k [])) → {i k : ℕ} → Fill xs i k → Fill ys i k
+pub fill_mono : (xs ys : List (List ℕ)) → ((i k : ℕ) → i ≤ k → Memᴰ i (get_or xs k []) → Memᴰ i (get_or ys k [])) → {i k : ℕ} → Fill xs i k →
+    Fill ys i k
 fill_mono xs ys f = fill_least xs (Fill ys) (λ i k l m. stored l (f i k l m)) (λ i j k l l' a b. cross i l l' a b) (λ i k l a. diag i refl l a)
 
 pub fill_upper : (cols : List (List ℕ)) {i k : ℕ} → Fill cols i k → (i ≤ k) × (k < length cols)
@@ -55,12 +56,14 @@ module _ (cols : List (List ℕ)) (fits : length cols ≤ root) where
   unfolding upper
   upper-at k = elim (dec_lt k (length cols)) [
     | yes l ↦ get_or-table (length cols) (upper_column cols) k [] l
-    | no n ↦ get_or-eq_default (table (length cols) (upper_column cols)) [] (rw length-table (omega arith)) ∙ sym (upper_column_out cols k (omega arith))
+    | no n ↦ get_or-eq_default (table (length cols) (upper_column cols)) [] (rw length-table (omega arith)) ∙
+        sym (upper_column_out cols k (omega arith))
   ]
 
   -- U's own pattern fills to itself
   pub fill_upper-same : {i k : ℕ} → Fill (upper cols) i k → Fill cols i k
-  fill_upper-same = fill_least (upper cols) (Fill cols) (λ i k l m. listed_filled cols fits i k (rw (upper-at k) at m)) (λ i j k l l' a b. cross i l l' a b) (λ i k l a. diag i refl l a)
+  fill_upper-same = fill_least (upper cols) (Fill cols) (λ i k l m. listed_filled cols fits i k (rw (upper-at k) at m))
+      (λ i j k l l' a b. cross i l l' a b) (λ i k l a. diag i refl l a)
 
   pub fill_into_upper : {i k : ℕ} → Fill cols i k → Fill (upper cols) i k
   fill_into_upper {i} {k} f = stored (fill_upper cols f).0 (rw (upper-at k) (filled_listed cols fits i k f))

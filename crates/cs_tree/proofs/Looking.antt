@@ -24,7 +24,8 @@ pub record Looking (k : ℕ) (rows li next₀ next : List ℕ) (q : ℕ) : Type 
   pub within : q ≤ length rows
   pub tells : Stood k rows li next₀ next q
 
-pub looking_start : {k : ℕ} {rows li next : List ℕ} → length li ≤ 4194304 → ((m : ℕ) → m < length rows → get_or rows m 0 < length next) → Looking k rows li next next 0
+pub looking_start : {k : ℕ} {rows li next : List ℕ} → length li ≤ 4194304 → ((m : ℕ) → m < length rows → get_or rows m 0 < length next) →
+    Looking k rows li next next 0
 looking_start f l =
     record {
       few = f;
@@ -48,7 +49,8 @@ module _ {k : ℕ} {rows li next₀ next : List ℕ} {q : ℕ} (v : Looking k ro
           within = omega arith;
           tells = λ n keys xs held at a s.
               let z : at + (q + 1) ≡ at + q + 1 = omega arith in
-              rw z (standing_turn (v.tells n keys xs held at a s) a.alike (omega (arith, a.end)) (omega (arith, a.wide, v.same)) (a.keyed q h ∙ sym e) (ap (λ (y : ℕ). get_or li y 0) (sym f) ∙ g ∙ sym (a.numbered q h)));
+              rw z (standing_turn (v.tells n keys xs held at a s) a.alike (omega (arith, a.end)) (omega (arith, a.wide, v.same)) (a.keyed q h ∙
+              sym e) (ap (λ (y : ℕ). get_or li y 0) (sym f) ∙ g ∙ sym (a.numbered q h)));
         }
 
   pub looking_done : length rows ≤ q → Stood k rows li next₀ next (length rows)
@@ -100,17 +102,23 @@ module _ {n t : ℕ} {up ui : List ℕ} (w : Whole n t up ui) {k : ℕ} (h : k <
           numbered = between_numbered w.pointed in_us x y ui room w.laid;
         }
 
-pub seen_turn : {n : ℕ} {up ui li next₀ next next1 : List ℕ} {k b f : ℕ} → Seen n up ui li next₀ next k → k < n → n ≤ length next → b ≡ get_or up k 0 → f ≡ get_or up (k + 1) 0
+pub seen_turn : {n : ℕ} {up ui li next₀ next next1 : List ℕ} {k b f : ℕ} → Seen n up ui li next₀ next k → k < n → n ≤ length next →
+    b ≡ get_or up k 0 → f ≡ get_or up (k + 1) 0
     → Stood k (part b f ui) li next next1 (length (part b f ui)) → Seen n up ui li next₀ next1 (k + 1)
 seen_turn {n = n} {k = k} v h l x y d =
-    record { tells = λ w held s. rw (← end w h x y) (d n (flatten w.us) (numbers 0 w.us) held (entries (take k w.us)) (among w h x y l) (v.tells w held s)) }
+    record {
+      tells = λ w held s. rw (← end w h x y) (d n (flatten w.us) (numbers 0 w.us) held (entries (take k w.us)) (among w h x y l)
+          (v.tells w held s));
+    }
 
-pub seen_done : {n : ℕ} {up ui li next₀ next : List ℕ} {k : ℕ} → Seen n up ui li next₀ next k → n ≤ k → (w : Whole n (length li) up ui) (held : List ℕ) → Standing 0 n (flatten w.us) (numbers 0 w.us) held li next₀ 0
+pub seen_done : {n : ℕ} {up ui li next₀ next : List ℕ} {k : ℕ} → Seen n up ui li next₀ next k → n ≤ k →
+    (w : Whole n (length li) up ui) (held : List ℕ) → Standing 0 n (flatten w.us) (numbers 0 w.us) held li next₀ 0
     → Standing 0 n (flatten w.us) (numbers 0 w.us) held li next (entries w.us)
 seen_done {k = k} v h w held s = let e : take k w.us ≡ w.us = take_all k w.us (omega (arith, w.count)) in let d = v.tells w held s in rw e at d
 
 -- ---- the whole of L
-module _ {n t : ℕ} {up ui : List ℕ} (w : Whole n t up ui) {lp li next : List ℕ} (v : Standing 0 n (flatten w.us) (numbers 0 w.us) lp li next (entries w.us))
+module _ {n t : ℕ} {up ui : List ℕ} (w : Whole n t up ui) {lp li next : List ℕ} (v : Standing 0 n (flatten w.us) (numbers 0 w.us) lp li next
+    (entries w.us))
     (none : get_or lp 0 0 ≡ 0) (used : (r : ℕ) → r < n → get_or next r 0 ≡ get_or lp (suc r) 0) where
   all : length (flatten w.us) ≤ entries w.us
   all = omega (arith, length-laid w.us)

@@ -52,7 +52,10 @@ across_sound j b k (c ∷ cs) m = go (listed-or-not j c) (across_sound j (suc b)
     later a = record { col = suc a.col; is = omega (arith, a.is); mem = a.mem }
 
     go : ((lists j c ≡ true) × Memᴰ j c) ⊎ ((lists j c ≡ false) × ¬ Memᴰ j c) → (Memᴰ k (across j (suc b) cs) → At j (suc b) k cs) → At j b k (c ∷ cs)
-    go (inl q) ih = elim (mathlib.Core.List.Memᴰ.cases_cons (rw (q.0, across) at m)) [ inl e ↦ record { col = 0; is = omega arith; mem = q.1 } | inr t ↦ later (ih t) ]
+    go (inl q) ih = elim (mathlib.Core.List.Memᴰ.cases_cons (rw (q.0, across) at m)) [
+      | inl e ↦ record { col = 0; is = omega arith; mem = q.1 }
+      | inr t ↦ later (ih t)
+    ]
     go (inr q) ih = later (ih (rw (q.0, across) at m))
 
 module _ (cols : List (List ℕ)) (fits : length cols ≤ root) where
@@ -66,7 +69,8 @@ module _ (cols : List (List ℕ)) (fits : length cols ≤ root) where
 
   pub lower_fill : (k j : ℕ) → j < length cols → Memᴰ k (get_or (lower cols) j []) ↔ Fill cols j k
   lower_fill k j l = rw (lower-at j l) (
-    (λ m. let a = across_sound j 0 k (upper cols) m in rw (a.is ∙ (let z : 0 + a.col ≡ a.col = omega arith in z)) (listed_filled cols fits j a.col (rw (upper-at cols fits a.col) at a.mem))),
+    (λ m. let a = across_sound j 0 k (upper cols) m in
+        rw (a.is ∙ (let z : 0 + a.col ≡ a.col = omega arith in z)) (listed_filled cols fits j a.col (rw (upper-at cols fits a.col) at a.mem))),
     (λ f. mathlib.Core.List.Memᴰ.cast (omega arith) (across_full j 0 k (upper cols) (rw (upper-at cols fits k) (filled_listed cols fits j k f)))),
   )
 

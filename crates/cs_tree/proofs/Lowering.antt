@@ -23,14 +23,16 @@ use Rattle.lists.proofs.Summing.{length-counted, counts_fit, counts_rest}
 use Rattle.cs_tree.specs.Pattern.{starts, entries, transposed}
 use Rattle.cs_tree.specs.Steps.{lengths, numbers, Spreads, Whole}
 use Rattle.cs_tree.proofs.Count.{length-starts, entries-across}
-use Rattle.cs_tree.proofs.Laid.{sums-starts, length-laid, length-numbers, length-lengths, transposed-length, transposed-start, length-transposed, laid-transposed}
+use Rattle.cs_tree.proofs.Laid.{sums-starts, length-laid, length-numbers, length-lengths, transposed-length, transposed-start, length-transposed}
+use Rattle.cs_tree.proofs.Laid.{laid-transposed}
 
 -- ---- `cumsum` on the fronts of two slices
 -- what is summed
 abbrev pub fronts : ℕ → List ℕ → List ℕ → List ℕ
 fronts m a b = take (min (length (part 0 m a)) (length (part 0 m b))) (part 0 m a)
 
-module _ (us : List (List ℕ)) (m : ℕ) (a b : List ℕ) (e : m ≡ length us + 1) (la : m ≤ length a) (lb : m ≤ length b) (h : take m a ≡ lengths us ++ (0 ∷ [])) (f : entries us < 2 ^ 32) where
+module _ (us : List (List ℕ)) (m : ℕ) (a b : List ℕ) (e : m ≡ length us + 1) (la : m ≤ length a) (lb : m ≤ length b)
+    (h : take m a ≡ lengths us ++ (0 ∷ [])) (f : entries us < 2 ^ 32) where
   long_a : length (part 0 m a) ≡ m
   long_a = rw (part-front m a) (length-take-le m a la)
 
@@ -38,13 +40,15 @@ module _ (us : List (List ℕ)) (m : ℕ) (a b : List ℕ) (e : m ≡ length us 
   long_b = rw (part-front m b) (length-take-le m b lb)
 
   summed_is : sums 0 (fronts m a b) ≡ starts 0 us
-  summed_is = ap (sums 0) (take_all (min (length (part 0 m a)) (length (part 0 m b))) (part 0 m a) (omega (arith, long_a, long_b)) ∙ part-front m a ∙ h) ∙ sums-starts us f
+  summed_is = ap (sums 0) (take_all (min (length (part 0 m a)) (length (part 0 m b))) (part 0 m a) (omega (arith, long_a, long_b)) ∙ part-front m a
+      ∙ h) ∙ sums-starts us f
 
   starts_long : length (starts 0 us) ≡ m
   starts_long = omega (arith, length-starts 0 us)
 
   fronted : (d : List ℕ) → length (part 0 m d) ≡ m → placed 0 m d (onto (part 0 m d) (sums 0 (fronts m a b))) ≡ onto d (starts 0 us)
-  fronted d l = ap (λ (t : List ℕ). placed 0 m d (onto (part 0 m d) t)) summed_is ∙ ap (placed 0 m d) (onto-whole (part 0 m d) (starts 0 us) (starts_long ∙ sym l)) ∙ placed-front d (starts 0 us) m starts_long
+  fronted d l = ap (λ (t : List ℕ). placed 0 m d (onto (part 0 m d) t)) summed_is ∙
+      ap (placed 0 m d) (onto-whole (part 0 m d) (starts 0 us) (starts_long ∙ sym l)) ∙ placed-front d (starts 0 us) m starts_long
 
   pub sums_a : {a1 : List ℕ} → a1 ≡ onto (part 0 m a) (sums 0 (fronts m a b)) → placed 0 m a a1 ≡ onto a (starts 0 us)
   sums_a g = ap (placed 0 m a) g ∙ fronted a long_a
@@ -53,7 +57,8 @@ module _ (us : List (List ℕ)) (m : ℕ) (a b : List ℕ) (e : m ≡ length us 
   sums_b g = ap (placed 0 m b) g ∙ fronted b long_b
 
 -- ---- L
-key-lengths : {A B : Type 0} (j : ℕ) (ks : List ℕ) (xs : List A) (ys : List B) → length xs ≡ length ys → length (of_key j ks xs) ≡ length (of_key j ks ys)
+key-lengths : {A B : Type 0} (j : ℕ) (ks : List ℕ) (xs : List A) (ys : List B) → length xs ≡ length ys → length (of_key j ks xs)
+    ≡ length (of_key j ks ys)
 unfolding of_key
 key-lengths j [] xs ys e = refl
 key-lengths j (k ∷ ks) [] [] e = refl
@@ -61,17 +66,20 @@ key-lengths j (k ∷ ks) [] (y ∷ ys) e = absurd (omega arith)
 key-lengths j (k ∷ ks) (x ∷ xs) [] e = absurd (omega arith)
 key-lengths {A} {B} j (k ∷ ks) (x ∷ xs) (y ∷ ys) e = go (eqb k j) (key-lengths j ks xs ys (omega arith))
   where
-    go : (b : Bool) → length (of_key j ks xs) ≡ length (of_key j ks ys) → length (cond b (x ∷ of_key j ks xs) (of_key j ks xs)) ≡ length (cond b (y ∷ of_key j ks ys) (of_key j ks ys))
+    go : (b : Bool) → length (of_key j ks xs) ≡ length (of_key j ks ys) → length (cond b (x ∷ of_key j ks xs) (of_key j ks xs))
+        ≡ length (cond b (y ∷ of_key j ks ys) (of_key j ks ys))
     go true h = ap suc h
     go false h = h
 
 -- what holds of every row of every column holds at each place
-pub laid-below : (us : List (List ℕ)) (n : ℕ) → ((k x : ℕ) → Memᴰ x (get_or us k []) → x < n) → (q : ℕ) → q < length (flatten us) → get_or (flatten us) q 0 < n
+pub laid-below : (us : List (List ℕ)) (n : ℕ) → ((k x : ℕ) → Memᴰ x (get_or us k []) → x < n) → (q : ℕ) → q < length (flatten us) →
+    get_or (flatten us) q 0 < n
 unfolding flatten
 laid-below [] n h q l = absurd (omega arith)
 laid-below (c ∷ cs) n h q l = go c (h 0) (laid-below cs n (λ k x m. h (suc k) x m)) q l
   where
-    go : (d : List ℕ) → ((x : ℕ) → Memᴰ x d → x < n) → ((q : ℕ) → q < length (flatten cs) → get_or (flatten cs) q 0 < n) → (q : ℕ) → q < length (d ++ flatten cs) → get_or (d ++ flatten cs) q 0 < n
+    go : (d : List ℕ) → ((x : ℕ) → Memᴰ x d → x < n) → ((q : ℕ) → q < length (flatten cs) → get_or (flatten cs) q 0 < n) → (q : ℕ) →
+        q < length (d ++ flatten cs) → get_or (d ++ flatten cs) q 0 < n
     go [] g r q l = r q l
     go (x ∷ d) g r zero l = g x (Memᴰ.head refl)
     go (x ∷ d) g r (suc q) l = go d (λ y m. g y (Memᴰ.tail m)) r q (omega arith)
@@ -132,7 +140,8 @@ module _ {n t : ℕ} {up ui : List ℕ} (w : Whole n t up ui) where
     count_at j l =
         let z : get_or zeros j 0 ≡ 0 = cleared-front 0 m next₀ j (omega arith) in
         let f = counts_fit ks zeros j (omega (arith, zeros_long)) (omega (arith, z, keys_long, w.few)) in
-        ap (λ (r : List ℕ). get_or r j 0) next1_is ∙ f ∙ (let y : get_or zeros j 0 + length (of_key j ks ks) ≡ length (of_key j ks ks) = omega (arith, z) in y) ∙ key-lengths j ks ks xs (sym items_long)
+        ap (λ (r : List ℕ). get_or r j 0) next1_is ∙ f ∙ (let y : get_or zeros j 0 + length (of_key j ks ks) ≡ length (of_key j ks ks) =
+        omega (arith, z) in y) ∙ key-lengths j ks ks xs (sym items_long)
         ∙ sym (transposed-length us w.once j (rw w.count l))
 
     count-last : get_or next1 n 0 ≡ 0
@@ -144,7 +153,8 @@ module _ {n t : ℕ} {up ui : List ℕ} (w : Whole n t up ui) where
     pub counted_are : take m next1 ≡ lengths ls ++ (0 ∷ [])
     counted_are =
         ext_get_or 0 (take m next1) (lengths ls ++ (0 ∷ []))
-        (length-take-le m next1 (omega (arith, next1_long)) ∙ (let y : m ≡ length (lengths ls ++ (0 ∷ [])) = omega (arith, length-append (lengths ls) (0 ∷ []), lengths_long) in y))
+        (length-take-le m next1 (omega (arith, next1_long)) ∙
+        (let y : m ≡ length (lengths ls ++ (0 ∷ [])) = omega (arith, length-append (lengths ls) (0 ∷ []), lengths_long) in y))
         (λ j l.
         let k : j < m = omega (arith, length-take-le m next1 (omega (arith, next1_long))) in
         get_or-take m next1 j 0 k
@@ -168,7 +178,8 @@ module _ {n t : ℕ} {up ui : List ℕ} (w : Whole n t up ui) where
           alike = items_long;
           named = named;
           w_long = omega (arith, next2_long);
-          starts = λ j l. get_or-onto-front next1 (starts 0 ls) 0 j (omega (arith, starts-in)) ∙ transposed-start us w.once j (omega (arith, w.count));
+          starts = λ j l. get_or-onto-front next1 (starts 0 ls) 0 j (omega (arith, starts-in)) ∙
+              transposed-start us w.once j (omega (arith, w.count));
           room = omega (arith, keys-whole n ks xs items_long named, keys_long);
         }
 
@@ -194,6 +205,7 @@ module _ {n t : ℕ} {up ui : List ℕ} (w : Whole n t up ui) where
         record {
           long = v.long ∙ next2_long;
           rest = λ q l.
-              v.rest q (omega arith) ∙ get_or-onto-rest next1 (starts 0 ls) 0 q (omega (arith, starts-in)) ∙ ap (λ (r : List ℕ). get_or r q 0) next1_is
+              v.rest q (omega arith) ∙ get_or-onto-rest next1 (starts 0 ls) 0 q (omega (arith, starts-in)) ∙
+              ap (λ (r : List ℕ). get_or r q 0) next1_is
               ∙ counts_rest ks zeros n q named (omega arith) ∙ cleared-rest 0 m next₀ q l;
         }

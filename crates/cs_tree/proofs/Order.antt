@@ -33,12 +33,14 @@ module _ (cols : List (List ℕ)) (par : List ℕ) (g : Good cols par) (k : ℕ)
       go (yes l) (inr d) (no p) ih = rw (path_new f par k i seen l d.0) (next {x = i} (λ h. absurd (p h)) (ih (omega arith) c b))
       go (yes l) (inr d) (yes p) ih =
           let r = rise cols par g k kr i p in
-          rw (path_new f par k i seen l d.0) (next {x = i} (λ h. path_full cols par g k kr f (get_or par i root) (get_or par i root) seen (omega arith) c (here refl) h) (ih (omega arith) c b))
+          rw (path_new f par k i seen l d.0) (next {x = i} (λ h. path_full cols par g k kr f (get_or par i root) (get_or par i root) seen
+          (omega arith) c (here refl) h) (ih (omega arith) c b))
 
   paths_behind : (rows acc : List ℕ) → Upwards par k acc → Behind par k acc → Behind par k (paths par k rows acc)
   unfolding paths along
   paths_behind [] acc c b = b
-  paths_behind (i ∷ is) acc c b = paths_behind is (path (suc k) par k i acc ++ acc) (path_closed cols par g k kr i acc c) (path_behind (suc k) i acc (omega arith) c b)
+  paths_behind (i ∷ is) acc c b = paths_behind is (path (suc k) par k i acc ++ acc) (path_closed cols par g k kr i acc c)
+      (path_behind (suc k) i acc (omega arith) c b)
 
 module _ (cols : List (List ℕ)) (fits : length cols ≤ root) where
   pub upper_column_behind : (k : ℕ) → Behind (tree cols) k (upper_column cols k)

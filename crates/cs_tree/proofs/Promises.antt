@@ -64,7 +64,8 @@ module _ (cols : List (List ℕ)) (fits : length cols ≤ root) where
     | inr q ↦ inr (q.0, listed q.1, λ k l m. q.2 k l (filled m))
   ]
 
-more : (cols : List (List ℕ)) → length cols ≤ root → (bs : List (List ℕ)) → length bs ≡ length cols → ((i k : ℕ) → i ≤ k → In cols i k → In bs i k) → (i k : ℕ) → In (upper cols) i k → In (upper bs) i k
+more : (cols : List (List ℕ)) → length cols ≤ root → (bs : List (List ℕ)) → length bs ≡ length cols → ((i k : ℕ) → i ≤ k → In cols i k → In bs i k)
+    → (i k : ℕ) → In (upper cols) i k → In (upper bs) i k
 more cols fits bs e h i k m = listed bs (omega arith) (fill_mono cols bs h (filled cols fits m))
 
 -- the pattern of U, its rows sorted
@@ -77,8 +78,11 @@ module _ (cols : List (List ℕ)) (fits : length cols ≤ root) where
 
   settled : (i k : ℕ) → In (upper su) i k ↔ In (upper cols) i k
   settled i k = (
-    (λ m. listed cols fits (fill_upper-same cols fits (fill_mono su (upper cols) (λ i k l n. sorted-in i (get_or (upper cols) k []) (rw (sorted-at (upper cols) k) at n)) (filled su length_su m)))),
-    (λ m. listed su length_su (fill_mono (upper cols) su (λ i k l n. rw (sorted-at (upper cols) k) (in-sorted i (get_or (upper cols) k []) n)) (fill_into_upper cols fits (filled cols fits m)))),
+    (λ m. listed cols fits (fill_upper-same cols fits
+        (fill_mono su (upper cols) (λ i k l n. sorted-in i (get_or (upper cols) k []) (rw (sorted-at (upper cols) k) at n))
+        (filled su length_su m)))),
+    (λ m. listed su length_su (fill_mono (upper cols) su (λ i k l n. rw (sorted-at (upper cols) k) (in-sorted i (get_or (upper cols) k []) n))
+        (fill_into_upper cols fits (filled cols fits m)))),
   )
 
   sorts : (k : ℕ) → Rising 0 (get_or su k [])

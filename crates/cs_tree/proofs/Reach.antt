@@ -18,7 +18,8 @@ pub reach_trans : {par : List ℕ} {i j m : ℕ} → Reach par i j → Reach par
 reach_trans (here e) q = rw e q
 reach_trans (up j e l h r) q = up j e l h (reach_trans r q)
 
-pub reach_mono : (par par' : List ℕ) → ((i : ℕ) → get_or par i root < root → get_or par' i root ≡ get_or par i root) → {i m : ℕ} → Reach par i m → Reach par' i m
+pub reach_mono : (par par' : List ℕ) → ((i : ℕ) → get_or par i root < root → get_or par' i root ≡ get_or par i root) → {i m : ℕ} → Reach par i m →
+    Reach par' i m
 reach_mono par par' f (here e) = here e
 reach_mono par par' f (up {i = i} j e l h r) = up j (f i (rw e h) ∙ e) l h (reach_mono par par' f r)
 
@@ -29,7 +30,8 @@ reach_split (up j e l h r) (here e') le = let q = reach_le r in absurd (omega ar
 reach_split (up j e l h r) (up j' e' l' h' r') le = reach_split r (rw (sym e' ∙ e) at r') le
 
 -- the first step of a path that has one
-pub reach_first : {par : List ℕ} {i m : ℕ} → Reach par i m → i < m → (i < get_or par i root) × (get_or par i root < root) × Reach par (get_or par i root) m
+pub reach_first : {par : List ℕ} {i m : ℕ} → Reach par i m → i < m → (i < get_or par i root) × (get_or par i root < root) ×
+    Reach par (get_or par i root) m
 reach_first (here e) l = absurd (omega arith)
 reach_first (up j e l h r) lt = (rw e l, rw e h, rw e r)
 

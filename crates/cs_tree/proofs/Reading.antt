@@ -37,7 +37,8 @@ unfolding paths up_to along
 paths-read par k [] older = refl
 paths-read par k (i ∷ is) older = go (dec_le i k) (paths-read par k is)
   where
-    go : Dec (i ≤ k) → ((older : List ℕ) → paths par k (up_to k is) older ≡ paths par k is older) → paths par k (up_to k (i ∷ is)) older ≡ paths par k is (path (suc k) par k i older ++ older)
+    go : Dec (i ≤ k) → ((older : List ℕ) → paths par k (up_to k is) older ≡ paths par k is older) → paths par k (up_to k (i ∷ is)) older
+        ≡ paths par k is (path (suc k) par k i older ++ older)
     go (yes l) ih = rw (up_to-keeps k i is l) (ih (path (suc k) par k i older ++ older))
     go (no n) ih = rw (up_to_drops k i is (omega arith), path-over (suc k) par k i older (omega arith)) (ih older)
 
@@ -50,7 +51,8 @@ module _ (cols : List (List ℕ)) where
   unfolding triangle up_to
   triangle-at k = elim (dec_lt k (length cols)) [
     | yes l ↦ get_or-table (length cols) (λ k. up_to k (get_or cols k [])) k [] l
-    | no n ↦ get_or-eq_default (table (length cols) (λ k. up_to k (get_or cols k []))) [] (rw length-table (omega arith)) ∙ sym (ap (up_to k) (get_or-eq_default cols [] {n = k} (omega arith)))
+    | no n ↦ get_or-eq_default (table (length cols) (λ k. up_to k (get_or cols k []))) [] (rw length-table (omega arith)) ∙
+        sym (ap (up_to k) (get_or-eq_default cols [] {n = k} (omega arith)))
   ]
 
   tree_to_lem : (k : ℕ) → tree_to (triangle cols) k ≡ tree_to cols k
@@ -70,7 +72,8 @@ module _ (cols : List (List ℕ)) where
   unfolding upper
   upper-read =
       sym
-      (is-table [] (length cols) (upper_column cols) (table (length (triangle cols)) (upper_column (triangle cols))) (length-table (length (triangle cols)) (upper_column (triangle cols)) ∙ length-triangle)
+      (is-table [] (length cols) (upper_column cols) (table (length (triangle cols)) (upper_column (triangle cols)))
+      (length-table (length (triangle cols)) (upper_column (triangle cols)) ∙ length-triangle)
       (λ k l. get_or-table (length (triangle cols)) (upper_column (triangle cols)) k [] (rw length-triangle l) ∙ column-read k))
 
 paths-none : (par : List ℕ) (k : ℕ) (rows older : List ℕ) → ((i : ℕ) → i ≤ k → ¬ Memᴰ i rows) → paths par k rows older ≡ older

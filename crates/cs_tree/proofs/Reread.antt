@@ -30,4 +30,5 @@ module _ (us : List (List ℕ)) (d e : List ℕ) (k : ℕ) (h : k < length us) w
       ap (λ (z : List ℕ). z ++ drop (length (flatten us)) e) (flatten_at us k h)
       ∙ append_assoc (flatten (take k us)) (get_or us k [] ++ flatten (drop (suc k) us)) (drop (length (flatten us)) e)
       ∙ ap (λ (z : List ℕ). flatten (take k us) ++ z) (append_assoc (get_or us k []) (flatten (drop (suc k) us)) (drop (length (flatten us)) e)) in
-      rw (start-onto, end-onto) (ap (part x (x + length (get_or us k []))) l ∙ part_at (flatten (take k us)) (get_or us k []) r x (x + length (get_or us k [])) (length-laid (take k us)) (omega arith))
+      rw (start-onto, end-onto) (ap (part x (x + length (get_or us k []))) l ∙
+      part_at (flatten (take k us)) (get_or us k []) r x (x + length (get_or us k [])) (length-laid (take k us)) (omega arith))

@@ -21,7 +21,11 @@ pub record Good (cols : List (List ℕ)) (par : List ℕ) : Type 0 where
 
 -- a stored row is in a column of the matrix
 pub in_cols : (cols : List (List ℕ)) (c i : ℕ) → Memᴰ i (get_or cols c []) → c < length cols
-in_cols cols c i m = elim (dec_lt c (length cols)) [ yes l ↦ l | no n ↦ absurd (Memᴰ.not-nil (rw (get_or-eq_default cols [] {n = c} (omega arith)) at m)) ]
+in_cols cols c i m = elim (dec_lt c (length cols)) [
+  | yes l ↦ l
+  | no n ↦
+      absurd (Memᴰ.not-nil (rw (get_or-eq_default cols [] {n = c} (omega arith)) at m))
+]
 
 pub tree_good : (cols : List (List ℕ)) → length cols ≤ root → Good cols (tree cols)
 unfolding tree

@@ -24,7 +24,8 @@ Going k rows next₀ li₀ next li q = (s : Spread k rows next₀ li₀) → Put
 pub going_start : {k : ℕ} {rows next li : List ℕ} → Going k rows next li next li 0
 going_start s = let e : s.at + 0 ≡ s.at = omega arith in rw e s.is
 
-module _ {k : ℕ} {rows next₀ li₀ next li : List ℕ} {q : ℕ} (v : Going k rows next₀ li₀ next li q) (h : q < length rows) {j : ℕ} (e : j ≡ get_or rows q 0) where
+module _ {k : ℕ} {rows next₀ li₀ next li : List ℕ} {q : ℕ} (v : Going k rows next₀ li₀ next li q) (h : q < length rows) {j : ℕ}
+    (e : j ≡ get_or rows q 0) where
   module _ (s : Spread k rows next₀ li₀) where
     inside : s.at + q < length s.keys
     inside = omega (arith, s.end)
@@ -56,12 +57,14 @@ module _ {k : ℕ} {rows next₀ li₀ next li : List ℕ} {q : ℕ} (v : Going 
       let z : set li (get_or next j 0) k ≡ li = rw (← e, ← f) (set-get_or li t 0) in
       rw z at (turned s)
 
-pub going_done : {k : ℕ} {rows next₀ li₀ next li : List ℕ} {q : ℕ} → Going k rows next₀ li₀ next li q → q ≤ length rows → length rows ≤ q → Going k rows next₀ li₀ next li (length rows)
+pub going_done : {k : ℕ} {rows next₀ li₀ next li : List ℕ} {q : ℕ} → Going k rows next₀ li₀ next li q → q ≤ length rows → length rows ≤ q →
+    Going k rows next₀ li₀ next li (length rows)
 going_done {rows = rows} {q = q} v a b s = let e : q ≡ length rows = omega arith in rw e at (v s)
 
 -- ---- column by column: `lower_columns`
 abbrev pub Columns : (n : ℕ) (up ui next₀ li₀ next li : List ℕ) (k : ℕ) → Type 0
-Columns n up ui next₀ li₀ next li k = (s : Spreads n up ui next₀ li₀) → Scattering 0 n (flatten s.us) (numbers 0 s.us) next₀ li₀ next li (entries (take k s.us))
+Columns n up ui next₀ li₀ next li k = (s : Spreads n up ui next₀ li₀) → Scattering 0 n (flatten s.us) (numbers 0 s.us) next₀ li₀ next li
+    (entries (take k s.us))
 
 pub columns-start : {n : ℕ} {up ui next li : List ℕ} → Columns n up ui next li next li 0
 unfolding entries
@@ -103,12 +106,15 @@ module _ {n : ℕ} {up ui next₀ li₀ : List ℕ} {k : ℕ} (s : Spreads n up 
           numbered = between_numbered s.pointed k_in x y ui s.room s.laid;
         }
 
-pub columns-turn : {n : ℕ} {up ui next₀ li₀ next li next1 li1 : List ℕ} {k b f : ℕ} → Columns n up ui next₀ li₀ next li k → k < n → b ≡ get_or up k 0 → f ≡ get_or up (k + 1) 0
-    → ((s : Spread k (part b f ui) next li) → Put k (part b f ui) next li s next1 li1 (length (part b f ui))) → Columns n up ui next₀ li₀ next1 li1 (k + 1)
+pub columns-turn : {n : ℕ} {up ui next₀ li₀ next li next1 li1 : List ℕ} {k b f : ℕ} → Columns n up ui next₀ li₀ next li k → k < n →
+    b ≡ get_or up k 0 → f ≡ get_or up (k + 1) 0
+    → ((s : Spread k (part b f ui) next li) → Put k (part b f ui) next li s next1 li1 (length (part b f ui))) →
+    Columns n up ui next₀ li₀ next1 li1 (k + 1)
 unfolding spreads_column
 columns-turn {ui = ui} {k = k} {b = b} {f = f} v h x y w s =
     let c = spreads_column s h x y v in
-    let z : entries (take k s.us) + length (part b f ui) ≡ entries (take (k + 1) s.us) = omega (arith, rows_long s h x y, size s h x y, end_is s h x y, start_is s h x y) in
+    let z : entries (take k s.us) + length (part b f ui) ≡ entries (take (k + 1) s.us) =
+    omega (arith, rows_long s h x y, size s h x y, end_is s h x y, start_is s h x y) in
     rw z at (w c)
 
 module _ {n : ℕ} {up ui next₀ li₀ next li : List ℕ} {k : ℕ} (v : Columns n up ui next₀ li₀ next li k) (a : k ≤ n) (h : n ≤ k) where
@@ -116,7 +122,8 @@ module _ {n : ℕ} {up ui next₀ li₀ next li : List ℕ} {k : ℕ} (v : Colum
   whole s = let e : take k s.us ≡ s.us = take_all k s.us (omega (arith, s.count)) in rw e (omega (arith, length-laid s.us))
 
 -- a column's entries stand among all of U's
-pub column_among : {n : ℕ} {up ui next₀ li₀ next li : List ℕ} {k b f : ℕ} (s : Spreads n up ui next₀ li₀) (h : k < n) (x : b ≡ get_or up k 0) (y : f ≡ get_or up (k + 1) 0) (v : Columns n up ui next₀ li₀ next li k)
+pub column_among : {n : ℕ} {up ui next₀ li₀ next li : List ℕ} {k b f : ℕ} (s : Spreads n up ui next₀ li₀) (h : k < n) (x : b ≡ get_or up k 0)
+    (y : f ≡ get_or up (k + 1) 0) (v : Columns n up ui next₀ li₀ next li k)
     → let c = spreads_column s h x y v in by_key c.n c.keys c.xs ≡ by_key n (flatten s.us) (numbers 0 s.us)
 unfolding spreads_column
 column_among s h x y v = refl

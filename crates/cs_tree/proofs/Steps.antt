@@ -26,7 +26,8 @@ unfolding climb
 climb_stop zero k i s h = refl
 climb_stop (suc f) k i s h = rw (is_false (ltb i k) (no_ltb h), climb)
 
-pub climb-root : (f k i : ℕ) (s : Forest) → i < k → get_or s.anc i root ≡ root → climb (suc f) k i s ≡ record { parent = set s.parent i k; anc = set s.anc i k }
+pub climb-root : (f k i : ℕ) (s : Forest) → i < k → get_or s.anc i root ≡ root → climb (suc f) k i s
+    ≡ record { parent = set s.parent i k; anc = set s.anc i k }
 unfolding climb
 climb-root f k i s h e = rw (is_true (ltb i k) (yes_ltb h), is_true (eqb (get_or s.anc i root) root) (yes_eqb e), climb)
 
@@ -36,7 +37,8 @@ unfolding climb
 climb_on f k i s h e = rw (is_true (ltb i k) (yes_ltb h), is_false (eqb (get_or s.anc i root) root) (no_eqb e), climb)
 
 -- get_or after set, by one test of the index
-pub get_d_set : (l : List ℕ) (i j a d : ℕ) → i < length l → ((j ≡ i) × (get_or (set l i a) j d ≡ a)) ⊎ ((j ≢ i) × (get_or (set l i a) j d ≡ get_or l j d))
+pub get_d_set : (l : List ℕ) (i j a d : ℕ) → i < length l →
+    ((j ≡ i) × (get_or (set l i a) j d ≡ a)) ⊎ ((j ≢ i) × (get_or (set l i a) j d ≡ get_or l j d))
 get_d_set l i j a d h = elim (ℕ_discrete j i) [ yes e ↦ inl (e, rw e (get_or-set_same l i a d h)) | no n ↦ inr (n, get_or-set_other l i j a d n) ]
 
 -- ---- paths

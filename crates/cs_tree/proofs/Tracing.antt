@@ -19,7 +19,8 @@ use Rattle.cs_tree.specs.Steps.{Marks, Walks, Walked, way, Roomy, Traced}
 use Rattle.cs_tree.specs.Falling.{Reached}
 use Rattle.cs_tree.proofs.Past.{listing_past}
 use Rattle.cs_tree.proofs.Steps.{path_new}
-use Rattle.cs_tree.proofs.Walking.{Walk, walk_start, walk_up, walk_next, walk_seen, walk_over, not_done, walks_on, Listing, listing_start, listing_room, listing_turn, listing_done, listing_all}
+use Rattle.cs_tree.proofs.Walking.{Walk, walk_start, walk_up, walk_next, walk_seen, walk_over, not_done, walks_on, Listing, listing_start}
+use Rattle.cs_tree.proofs.Walking.{listing_room, listing_turn, listing_done, listing_all}
 
 nothing : (l : List ℕ) → length l ≡ 0 → l ≡ []
 nothing [] e = refl
@@ -38,9 +39,16 @@ pub record Tracing (s k : ℕ) (par : List ℕ) (row : ℕ) (mark₀ mark out₀
   pub given : Roomy s k par row mark₀ out₀
   pub tells : (o : Roomy s k par row mark₀ out₀) → Onward k par row o.older out c len
 
-pub tracing_start : {s k : ℕ} {par : List ℕ} {row : ℕ} {mark out : List ℕ} → Walks k par mark → Roomy s k par row mark out → Tracing s k par row mark mark out out row 0
+pub tracing_start : {s k : ℕ} {par : List ℕ} {row : ℕ} {mark out : List ℕ} → Walks k par mark → Roomy s k par row mark out →
+    Tracing s k par row mark mark out out row 0
 tracing_start {k = k} v o =
-    record { walk = walk_start v refl; long = refl; inside = omega arith; given = o; tells = λ t. record { fuel = suc k; goes = refl; enough = omega arith } }
+    record {
+      walk = walk_start v refl;
+      long = refl;
+      inside = omega arith;
+      given = o;
+      tells = λ t. record { fuel = suc k; goes = refl; enough = omega arith };
+    }
 
 module _ {s k : ℕ} {par : List ℕ} {row : ℕ} {mark₀ mark out₀ out : List ℕ} {c len : ℕ} (v : Tracing s k par row mark₀ mark out₀ out c len) where
   told : (o : Roomy s k par row mark₀ out₀) → Walked s k par row o.older len mark → Traced s k par row o.older len mark out
@@ -77,11 +85,18 @@ module _ {s k : ℕ} {par : List ℕ} {row : ℕ} {mark₀ mark out₀ out : Lis
       pub trace_room : len < length out
       trace_room = go v.given (v.tells v.given).fuel (v.tells v.given).goes (v.tells v.given).enough
         where
-          go : (o : Roomy s k par row mark₀ out₀) (g : ℕ) → way k par row o.older ≡ take len out ++ path g par k c o.older → k < c + g → len < length out
+          go : (o : Roomy s k par row mark₀ out₀) (g : ℕ) → way k par row o.older ≡ take len out ++ path g par k c o.older → k < c + g →
+              len < length out
           go o zero p q = absurd (omega arith)
           go o (suc g) p q =
-              omega
-              (arith, ap length (p ∙ ap (λ (t : List ℕ). take len out ++ t) (on o g)), length-append (take len out) (c ∷ path g par k (get_or par i 0) o.older), length-take-le len out v.inside, o.room, v.long)
+              omega (
+                arith,
+                ap length (p ∙ ap (λ (t : List ℕ). take len out ++ t) (on o g)),
+                length-append (take len out) (c ∷ path g par k (get_or par i 0) o.older),
+                length-take-le len out v.inside,
+                o.room,
+                v.long,
+              )
 
       pub tracing_turn : Tracing s k par row mark₀ (set mark i (s + 1)) out₀ (set out len c) (get_or par i 0) (len + 1)
       tracing_turn =
@@ -93,12 +108,14 @@ module _ {s k : ℕ} {par : List ℕ} {row : ℕ} {mark₀ mark out₀ out : Lis
             tells = λ o. go o (v.tells o).fuel (v.tells o).goes (v.tells o).enough;
           }
         where
-          go : (o : Roomy s k par row mark₀ out₀) (g : ℕ) → way k par row o.older ≡ take len out ++ path g par k c o.older → k < c + g → Onward k par row o.older (set out len c) (get_or par i 0) (len + 1)
+          go : (o : Roomy s k par row mark₀ out₀) (g : ℕ) → way k par row o.older ≡ take len out ++ path g par k c o.older → k < c + g →
+              Onward k par row o.older (set out len c) (get_or par i 0) (len + 1)
           go o zero p q = absurd (omega arith)
           go o (suc g) p q =
               record {
                 fuel = g;
-                goes = p ∙ ap (λ (t : List ℕ). take len out ++ t) (on o g) ∙ sym (written-more out len c (path g par k (get_or par i 0) o.older) trace_room);
+                goes = p ∙ ap (λ (t : List ℕ). take len out ++ t) (on o g) ∙
+                    sym (written-more out len c (path g par k (get_or par i 0) o.older) trace_room);
                 enough = omega (arith, trace_up);
               }
 
@@ -159,7 +176,8 @@ module _ {len top low : ℕ} {out₀ out : List ℕ} {t : ℕ} (v : Shifting len
       (rw (e, z, part-front len out₀) at v.back)
 
 -- where they end there already nothing moves
-pub shift_none : {len top low : ℕ} (out : List ℕ) → low ≡ top - len → len ≤ top → low ≡ 0 → (low + len ≡ top) × (drop low out ≡ take len out ++ drop top out)
+pub shift_none : {len top low : ℕ} (out : List ℕ) → low ≡ top - len → len ≤ top → low ≡ 0 → (low + len ≡ top) ×
+    (drop low out ≡ take len out ++ drop top out)
 shift_none {len = len} {top = top} {low = low} out e h z =
     let n : len ≡ top = omega arith in
     (omega arith, rw (z, n) (sym (take-append-drop top out)))
@@ -176,7 +194,8 @@ pub record Reaching (s k : ℕ) (par rows mark₀ mark out₀ out : List ℕ) (e
   pub is : Listing s k par rows mark count q
   pub back : drop top out ≡ is.older ++ drop end out₀
 
-pub reaching_start : {s k : ℕ} {par : List ℕ} (rows : List ℕ) {mark : List ℕ} (out : List ℕ) {end : ℕ} → Walks k par mark → Marks s mark [] → end ≤ length out → length (paths par k rows []) ≤ end
+pub reaching_start : {s k : ℕ} {par : List ℕ} (rows : List ℕ) {mark : List ℕ} (out : List ℕ) {end : ℕ} → Walks k par mark → Marks s mark [] →
+    end ≤ length out → length (paths par k rows []) ≤ end
     → Reaching s k par rows mark mark out out end end 0
 unfolding listing_start
 reaching_start rows out v m i e =
@@ -196,7 +215,8 @@ module _ {s k : ℕ} {par rows mark₀ mark out₀ out : List ℕ} {end top q : 
           room = omega (arith, length_part 0 top out reaching_end, listing_room v.is h refl, v.rest, v.room);
         }
 
-    module _ {len : ℕ} {mark1 ys : List ℕ} (e : length mark1 ≡ length mark) (g : length ys ≡ length (part 0 top out)) (w : (o : Roomy s k par (get_or rows q 0) mark (part 0 top out)) → Traced s k par (get_or rows q 0) o.older len mark1 ys) where
+    module _ {len : ℕ} {mark1 ys : List ℕ} (e : length mark1 ≡ length mark) (g : length ys ≡ length (part 0 top out))
+        (w : (o : Roomy s k par (get_or rows q 0) mark (part 0 top out)) → Traced s k par (get_or rows q 0) o.older len mark1 ys) where
       traced : Traced s k par (get_or rows q 0) v.is.older len mark1 ys
       unfolding reaching_roomy
       traced = w reaching_roomy
@@ -219,7 +239,8 @@ module _ {s k : ℕ} {par rows mark₀ mark out₀ out : List ℕ} {end top q : 
       ahead : take len (placed 0 top out ys) ≡ take len ys
       ahead = take-append-le len ys (drop (top - 0) (drop 0 out)) (omega (arith, ys_long, reaching_room))
 
-      pub reaching_turn : {low : ℕ} {out2 : List ℕ} → length out2 ≡ length (placed 0 top out ys) → (low + len ≡ top) × (drop low out2 ≡ take len (placed 0 top out ys) ++ drop top (placed 0 top out ys))
+      pub reaching_turn : {low : ℕ} {out2 : List ℕ} → length out2 ≡ length (placed 0 top out ys) → (low + len ≡ top) ×
+          (drop low out2 ≡ take len (placed 0 top out ys) ++ drop top (placed 0 top out ys))
           → Reaching s k par rows mark₀ mark1 out₀ out2 end low (q + 1)
       unfolding listing_turn
       reaching_turn a b =
@@ -232,7 +253,8 @@ module _ {s k : ℕ} {par rows mark₀ mark out₀ out : List ℕ} {end top q : 
             count = v.count + len;
             rest = omega (arith, v.rest, b.0);
             is = listing_turn v.is h refl traced.walked refl;
-            back = b.1 ∙ (rw (ahead, behind, traced.listed, v.back)) ∙ sym (append_assoc (way k par (get_or rows q 0) v.is.older) v.is.older (drop end out₀));
+            back = b.1 ∙ (rw (ahead, behind, traced.listed, v.back)) ∙
+                sym (append_assoc (way k par (get_or rows q 0) v.is.older) v.is.older (drop end out₀));
           }
 
   pub reaching_done : length rows ≤ q → Reached s k par rows end out₀ top mark out

@@ -76,7 +76,11 @@ module _ (cols : List (List ℕ)) (k : ℕ) (kn : k < length cols) (kr : k < roo
   finish i s h m =
       let e : i ≡ k = let t = m.top in omega arith in
       record {
-        sound = relax cols (suc k) s (Late k i s.parent) (Reach s.parent) (λ j a. elim [ inl r ↦ r | inr q ↦ let ia : i ≡ a = e ∙ sym q.0 in rw ia at q.2 ]) m.sound;
+        sound = relax cols (suc k) s (Late k i s.parent) (Reach s.parent) (λ j a. elim [
+          | inl r ↦ r
+          | inr q ↦ let ia : i ≡ a = e ∙ sym q.0 in
+              rw ia at q.2
+        ]) m.sound;
         arrives = rw e at m.start;
         keeps = λ a b r. r;
       }
@@ -93,7 +97,8 @@ module _ (cols : List (List ℕ)) (k : ℕ) (kn : k < length cols) (kr : k < roo
     i<a = let q = m.sound.len_a in omega arith
 
     grown : {a b : ℕ} → Reach s.parent a b → Reach (set s.parent i k) a b
-    grown = reach_mono s.parent (set s.parent i k) (λ j h. elim (get_d_set s.parent i j k root i<p) [ inl q ↦ absurd (let h' = rw q.0 at h in omega (arith, rooted)) | inr q ↦ q.1 ])
+    grown = reach_mono s.parent (set s.parent i k)
+        (λ j h. elim (get_d_set s.parent i j k root i<p) [ inl q ↦ absurd (let h' = rw q.0 at h in omega (arith, rooted)) | inr q ↦ q.1 ])
 
     link : get_or (set s.parent i k) i root ≡ k
     link = elim (get_d_set s.parent i i k root i<p) [ inl q ↦ q.1 | inr q ↦ absurd (q.0 refl) ]
@@ -155,10 +160,12 @@ module _ (cols : List (List ℕ)) (k : ℕ) (kn : k < length cols) (kr : k < roo
 
   climb-mid : (f i : ℕ) (s : Forest) → k ≤ i + f → Mid cols k i₀ i s → Climbed cols k i₀ s (climb f k i s)
   climb-mid zero i s fuel m = rw (climb_stop zero k i s (omega arith)) (finish i s (omega arith) m)
-  climb-mid (suc f) i s fuel m = go (dec_lt i k) (ℕ_discrete (A s i) root) (λ l n. climb-mid f (A s i) (record { parent = s.parent; anc = set s.anc i k }) (omega (arith, m.sound.jump i n)) (goes_on i s m l n))
+  climb-mid (suc f) i s fuel m = go (dec_lt i k) (ℕ_discrete (A s i) root)
+      (λ l n. climb-mid f (A s i) (record { parent = s.parent; anc = set s.anc i k }) (omega (arith, m.sound.jump i n)) (goes_on i s m l n))
     where
       go : Dec (i < k) → Dec (A s i ≡ root)
-          → ((l : i < k) (n : A s i ≢ root) → Climbed cols k i₀ (record { parent = s.parent; anc = set s.anc i k }) (climb f k (A s i) (record { parent = s.parent; anc = set s.anc i k })))
+          → ((l : i < k) (n : A s i ≢ root) → Climbed cols k i₀ (record { parent = s.parent; anc = set s.anc i k })
+          (climb f k (A s i) (record { parent = s.parent; anc = set s.anc i k })))
           → Climbed cols k i₀ s (climb (suc f) k i s)
       go (no g) d next = rw (climb_stop (suc f) k i s (omega arith)) (finish i s (omega arith) m)
       go (yes l) (yes e) next = rw (climb-root f k i s l e) (linked_root i s m l e)
@@ -180,12 +187,14 @@ module _ (cols : List (List ℕ)) (k : ℕ) (kn : k < length cols) (kr : k < roo
     pub arrive : (i : ℕ) → i < k → Memᴰ i rows → Reach s'.parent i k
     pub keeps : (a b : ℕ) → Reach s.parent a b → Reach s'.parent a b
 
-  pub climbs-ok : (rows : List ℕ) → ((i : ℕ) → Memᴰ i rows → Memᴰ i (get_or cols k [])) → (s : Forest) → Sound cols (suc k) s (Reach s.parent) → Column rows s (climbs k rows s)
+  pub climbs-ok : (rows : List ℕ) → ((i : ℕ) → Memᴰ i rows → Memᴰ i (get_or cols k [])) → (s : Forest) → Sound cols (suc k) s (Reach s.parent) →
+      Column rows s (climbs k rows s)
   unfolding climbs along
   climbs-ok [] sub s h = record { sound = h; arrive = λ i l m. absurd (Memᴰ.not-nil m); keeps = λ a b r. r }
   climbs-ok (i ∷ is) sub s h = go (dec_lt i k) (λ s' h'. climbs-ok is (λ j m. sub j (Memᴰ.tail m)) s' h')
     where
-      go : Dec (i < k) → ((s' : Forest) → Sound cols (suc k) s' (Reach s'.parent) → Column is s' (climbs k is s')) → Column (i ∷ is) s (climbs k is (climb k k i s))
+      go : Dec (i < k) → ((s' : Forest) → Sound cols (suc k) s' (Reach s'.parent) → Column is s' (climbs k is s')) →
+          Column (i ∷ is) s (climbs k is (climb k k i s))
       go (yes l) rest =
           let c = climb-ok i s l (sub i (Memᴰ.head refl)) h in
           let r = rest (climb k k i s) c.sound in
@@ -207,7 +216,11 @@ pub record Done (cols : List (List ℕ)) (k : ℕ) (s : Forest) : Type 0 where
   pub closed : (c i : ℕ) → c < k → i < c → Memᴰ i (get_or cols c []) → Reach s.parent i c
 
 get_or_roots : (n i : ℕ) → get_or (replicate n root) i root ≡ root
-get_or_roots n i = elim (dec_lt i n) [ yes l ↦ get_or-replicate n i root root l | no g ↦ get_or-eq_default (replicate n root) root (rw length-replicate (omega arith)) ]
+get_or_roots n i = elim (dec_lt i n) [
+  | yes l ↦ get_or-replicate n i root root l
+  | no g ↦
+      get_or-eq_default (replicate n root) root (rw length-replicate (omega arith))
+]
 
 pub tree-done : (cols : List (List ℕ)) (k : ℕ) → k ≤ length cols → k ≤ root → Done cols k (tree_to cols k)
 unfolding tree_to

@@ -76,10 +76,11 @@ module _ (cols : List (List ℕ)) (par : List ℕ) (g : Good cols par) (k : ℕ)
           → Once (path f par k (get_or par i root) seen ++ seen) → Once (path (suc f) par k i seen ++ seen)
       go (no n) m ih = rw (path-over (suc f) par k i seen (omega arith)) d
       go (yes l) (inl m) ih = rw (path_seen (suc f) par k i seen l m.0) d
-      go (yes l) (inr m) ih = rw (path_new f par k i seen l m.0) (one_more {x = i} (λ h. elim (Memᴰ.append_cases (path f par k (get_or par i root) seen) {t = seen} h) [
-        | inl t ↦ let q = path_sound f (get_or par i root) i seen t in let ql = reach_le q.0 in let r = rise i (omega arith) in omega arith
-        | inr t ↦ m.1 t
-      ]) ih)
+      go (yes l) (inr m) ih = rw (path_new f par k i seen l m.0)
+          (one_more {x = i} (λ h. elim (Memᴰ.append_cases (path f par k (get_or par i root) seen) {t = seen} h) [
+            | inl t ↦ let q = path_sound f (get_or par i root) i seen t in let ql = reach_le q.0 in let r = rise i (omega arith) in omega arith
+            | inr t ↦ m.1 t
+          ]) ih)
 
   -- ---- all stored rows of the column
 
@@ -98,7 +99,8 @@ module _ (cols : List (List ℕ)) (par : List ℕ) (g : Good cols par) (k : ℕ)
   paths_full [] acc c m r h = absurd (Memᴰ.not-nil m)
   paths_full (x ∷ xs) acc c {i} {j} m r h = go (Memᴰ.cases_cons m) (λ t. paths_full xs (path (suc k) par k x acc ++ acc) (path_closed x acc c) t r h)
     where
-      go : (i ≡ x) ⊎ Memᴰ i xs → (Memᴰ i xs → Memᴰ j (paths par k xs (path (suc k) par k x acc ++ acc))) → Memᴰ j (paths par k xs (path (suc k) par k x acc ++ acc))
+      go : (i ≡ x) ⊎ Memᴰ i xs → (Memᴰ i xs → Memᴰ j (paths par k xs (path (suc k) par k x acc ++ acc))) →
+          Memᴰ j (paths par k xs (path (suc k) par k x acc ++ acc))
       go (inl e) ih = paths-keeps xs (path (suc k) par k x acc ++ acc) (path_full (suc k) x j acc (omega arith) c (rw e at r) h)
       go (inr t) ih = ih t
 

@@ -31,7 +31,8 @@ pub marks-next : {k : ℕ} {mark listed : List ℕ} → Marks k mark listed → 
 marks-next {k = k} {mark = mark} v = marks_fresh (k + 1) mark v.most
 
 -- one more
-pub marks-more : {k : ℕ} {mark : List ℕ} (l acc : List ℕ) (i : ℕ) → i < length mark → Marks k mark (l ++ acc) → Marks k (set mark i (k + 1)) ((l ++ (i ∷ [])) ++ acc)
+pub marks-more : {k : ℕ} {mark : List ℕ} (l acc : List ℕ) (i : ℕ) → i < length mark → Marks k mark (l ++ acc) →
+    Marks k (set mark i (k + 1)) ((l ++ (i ∷ [])) ++ acc)
 marks-more {k = k} {mark = mark} l acc i h v = record { at = at; most = most }
   where
     same : lists i ((l ++ (i ∷ [])) ++ acc) ≡ true
@@ -42,7 +43,8 @@ marks-more {k = k} {mark = mark} l acc i h v = record { at = at; most = most }
         mem (x ∷ l) = Memᴰ.tail (mem l)
 
     other : (j : ℕ) → j ≢ i → lists j ((l ++ (i ∷ [])) ++ acc) ≡ lists j (l ++ acc)
-    other j n = ap (lists j) (append_snoc l i acc) ∙ lists-append j l (i ∷ acc) ∙ ap (λ (b : Bool). lists j l || b) (lists_other j i acc n) ∙ sym (lists-append j l acc)
+    other j n = ap (lists j) (append_snoc l i acc) ∙ lists-append j l (i ∷ acc) ∙ ap (λ (b : Bool). lists j l || b) (lists_other j i acc n) ∙
+        sym (lists-append j l acc)
 
     at : (j : ℕ) → j < length (set mark i (k + 1)) → eqb (get_or (set mark i (k + 1)) j 0) (k + 1) ≡ lists j ((l ++ (i ∷ [])) ++ acc)
     at j m =
@@ -69,7 +71,15 @@ pub record Walking (s k : ℕ) (par : List ℕ) (row : ℕ) (older : List ℕ) (
   pub marks : Marks s mark (done ++ older)
 
 pub walking_start : {s k : ℕ} {par : List ℕ} {row : ℕ} {older mark : List ℕ} → Marks s mark older → Walking s k par row older row 0 mark
-walking_start {k = k} v = record { fuel = suc k; done = []; count = refl; goes = refl; enough = omega arith; low = λ x m. absurd (Memᴰ.not-nil m); marks = v }
+walking_start {k = k} v = record {
+  fuel = suc k;
+  done = [];
+  count = refl;
+  goes = refl;
+  enough = omega arith;
+  low = λ x m. absurd (Memᴰ.not-nil m);
+  marks = v;
+}
 
 module _ {s k : ℕ} {par : List ℕ} {row : ℕ} {older : List ℕ} {i len : ℕ} {mark : List ℕ} (v : Walking s k par row older i len mark) where
   ended : path v.fuel par k i older ≡ [] → Walked s k par row older len mark
@@ -90,7 +100,8 @@ module _ {s k : ℕ} {par : List ℕ} {row : ℕ} {older : List ℕ} {i len : �
     pub walking_seen : get_or mark i 0 ≡ s + 1 → Walked s k par row older len mark
     walking_seen e = ended (path_seen v.fuel par k i older h (sym not_done ∙ sym (v.marks.at i m) ∙ eq-eqb (get_or mark i 0) (s + 1) e))
 
-    pub walking_next : {n : ℕ} → Above par → i < length par → (get_or mark i 0 ≡ s + 1 → ⊥) → n ≡ get_or par i 0 → Walking s k par row older n (len + 1) (set mark i (s + 1))
+    pub walking_next : {n : ℕ} → Above par → i < length par → (get_or mark i 0 ≡ s + 1 → ⊥) → n ≡ get_or par i 0 →
+        Walking s k par row older n (len + 1) (set mark i (s + 1))
     walking_next {n = n} a l e f = go v.fuel v.goes v.enough
       where
         new : lists i older ≡ false
@@ -109,7 +120,8 @@ module _ {s k : ℕ} {par : List ℕ} {row : ℕ} {older : List ℕ} {i len : �
               fuel = g;
               done = v.done ++ (i ∷ []);
               count = omega (arith, length-append v.done (i ∷ []), v.count);
-              goes = p ∙ ap (λ (t : List ℕ). v.done ++ t) (path_new g par k i older h new ∙ ap (λ (x : ℕ). i ∷ path g par k x older) same) ∙ sym (append_snoc v.done i (path g par k n older));
+              goes = p ∙ ap (λ (t : List ℕ). v.done ++ t) (path_new g par k i older h new ∙ ap (λ (x : ℕ). i ∷ path g par k x older) same) ∙
+                  sym (append_snoc v.done i (path g par k n older));
               enough = omega (arith, rise);
               low = λ x t. elim (Memᴰ.append_cases v.done t) [
                 | inl u ↦ omega (arith, v.low x u, rise)
@@ -186,7 +198,13 @@ module _ {s k : ℕ} {par rows mark : List ℕ} {count q : ℕ} (v : Listing s k
     pub listing_room : count + length (way k par row v.older) ≤ length (paths par k rows [])
     unfolding paths
     listing_room =
-        omega (arith, ap length turned.rest, longer k par (drop (q + 1) rows) (front k par row v.older), length-append (way k par row v.older) v.older, v.counts)
+        omega (
+          arith,
+          ap length turned.rest,
+          longer k par (drop (q + 1) rows) (front k par row v.older),
+          length-append (way k par row v.older) v.older,
+          v.counts,
+        )
 
   module _ {row len : ℕ} {mark1 : List ℕ} (h : q < length rows) (e : row ≡ get_or rows q 0) (w : Walked s k par row v.older len mark1) where
     unfoldable pub listing_turn : {c : ℕ} → c ≡ count + len → Listing s k par rows mark1 c (q + 1)
@@ -213,15 +231,18 @@ pub record Tallying (s k : ℕ) (par rows mark₀ mark : List ℕ) (count q : �
   pub fits : count ≤ q * 65536
   pub is : Listing s k par rows mark count q
 
-pub tallying_start : {s k : ℕ} {par : List ℕ} (rows : List ℕ) {mark : List ℕ} → Walks k par mark → Marks s mark [] → Tallying s k par rows mark mark 0 0
+pub tallying_start : {s k : ℕ} {par : List ℕ} (rows : List ℕ) {mark : List ℕ} → Walks k par mark → Marks s mark [] →
+    Tallying s k par rows mark mark 0 0
 tallying_start rows v m = record { asks = v; same = refl; fits = omega arith; is = listing_start rows m }
 
 -- a slice of marks comes back as long as it was
 pub walks_on : {k : ℕ} {par mark mark1 : List ℕ} → Walks k par mark → length mark1 ≡ length mark → Walks k par mark1
 walks_on v e = record { small = v.small; p_long = v.p_long; m_long = omega (arith, v.m_long, e); above = v.above }
 
-pub tallying_turn : {s k : ℕ} {par rows mark₀ mark mark1 : List ℕ} {count q len : ℕ} → Tallying s k par rows mark₀ mark count q → q < length rows → length mark1 ≡ length mark
-    → (len ≤ k + 1) × ((older : List ℕ) → Marks s mark older → Walked s k par (get_or rows q 0) older len mark1) → Tallying s k par rows mark₀ mark1 (count + len) (q + 1)
+pub tallying_turn : {s k : ℕ} {par rows mark₀ mark mark1 : List ℕ} {count q len : ℕ} → Tallying s k par rows mark₀ mark count q → q < length rows →
+    length mark1 ≡ length mark
+    → (len ≤ k + 1) × ((older : List ℕ) → Marks s mark older → Walked s k par (get_or rows q 0) older len mark1) →
+    Tallying s k par rows mark₀ mark1 (count + len) (q + 1)
 tallying_turn v h e w =
     record {
       asks = walks_on v.asks e;

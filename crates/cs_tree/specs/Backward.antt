@@ -31,4 +31,5 @@ pub record Among (k : ℕ) (rows : List ℕ) (n : ℕ) (keys xs next : List ℕ)
 
 -- q of its rows stand in li where they should, for whatever they stand among
 abbrev pub Stood : (k : ℕ) (rows li next₀ next : List ℕ) (q : ℕ) → Type 0
-Stood k rows li next₀ next q = (n : ℕ) (keys xs held : List ℕ) (at : ℕ) → Among k rows n keys xs next₀ at → Standing 0 n keys xs held li next₀ at → Standing 0 n keys xs held li next (at + q)
+Stood k rows li next₀ next q = (n : ℕ) (keys xs held : List ℕ) (at : ℕ) → Among k rows n keys xs next₀ at → Standing 0 n keys xs held li next₀ at →
+    Standing 0 n keys xs held li next (at + q)

@@ -65,7 +65,8 @@ pub record Promised (cols : List (List ℕ)) (par : List ℕ) (us ls : List (Lis
   -- the rows so sorted rise
   pub sorts : (k : ℕ) → Rising 0 (get_or (map sorted us) k [])
   -- a matrix that stores all those upper entries and more has a least pattern that holds all of this one
-  pub more : (bs : List (List ℕ)) → length bs ≡ length cols → ((i k : ℕ) → i ≤ k → In cols i k → In bs i k) → (i k : ℕ) → In us i k → In (upper bs) i k
+  pub more : (bs : List (List ℕ)) → length bs ≡ length cols → ((i k : ℕ) → i ≤ k → In cols i k → In bs i k) → (i k : ℕ) → In us i k →
+      In (upper bs) i k
   -- the parent of i is the smallest k > i with (i, k) in U, or the root's mark
   pub parent : (i : ℕ) → i < length cols → IsParent (In us) i (get_or par i root)
   -- descendants precede ancestors within a column

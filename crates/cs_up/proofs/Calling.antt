@@ -43,7 +43,8 @@ unfolding upOf
 up_ends a = factor-ends (up_step a (upper (columns a.pattern)) (lower (columns a.pattern))) a.pattern.ncols 0 []
 
 -- ---- `fill`
-module _ {n : ℕ} {p i : List ℕ} {v : List Float} {up ui lp li : List ℕ} {lx : List Float} {next : List ℕ} {x : List Float} (R : Fills n p i v up ui lp li lx next x) where
+module _ {n : ℕ} {p i : List ℕ} {v : List Float} {up ui lp li : List ℕ} {lx : List Float} {next : List ℕ} {x : List Float}
+    (R : Fills n p i v up ui lp li lx next x) where
   abbrev size : ℕ
   size = entries (upper (columns (pattern n n p i)))
 
@@ -70,7 +71,8 @@ module _ {n : ℕ} {p i : List ℕ} {v : List Float} {up ui lp li : List ℕ} {l
       zeros = R.zeros;
     }
 
-    module _ {s : Factored} {lx1 : List Float} (F : (s ≡ f.answer) × (s.number ≡ 0 → lx1 ≡ flatten f.columns)) (l : length lx1 ≡ length (part 0 t lx)) where
+    module _ {s : Factored} {lx1 : List Float} (F : (s ≡ f.answer) × (s.number ≡ 0 → lx1 ≡ flatten f.columns))
+        (l : length lx1 ≡ length (part 0 t lx)) where
       long : length lx1 ≡ t
       long = l ∙ part_long t lx fill_in_lx
 
@@ -94,7 +96,8 @@ module _ {n : ℕ} {p i : List ℕ} {v : List Float} {up ui lp li : List ℕ} {l
 
       pub filled : (next1 : List ℕ) (x1 : List Float) {lx2 : List Float} → length next1 ≡ length (part 0 n next) → length x1 ≡ length (part 0 n x)
           → lx2 ≡ cond (eqb s.number 11) (cleared none t (placed 0 t lx lx1)) (placed 0 t lx lx1)
-          → (s ≡ f.answer) × (lx2 ≡ written size f lx) × (cleared 0 (n + 1) (placed 0 n next next1) ≡ cleared 0 (n + 1) next) × (cleared none (n + 1) (placed 0 n x x1) ≡ cleared none (n + 1) x)
+          → (s ≡ f.answer) × (lx2 ≡ written size f lx) × (cleared 0 (n + 1) (placed 0 n next next1) ≡ cleared 0 (n + 1) next) ×
+          (cleared none (n + 1) (placed 0 n x x1) ≡ cleared none (n + 1) x)
       filled next1 x1 k m b = (
         F.0,
         out_is b,
@@ -122,7 +125,8 @@ module _ (nrows n : ℕ) (p i : List ℕ) (v : List Float) (tr up ui lp li : Lis
       (r ≡ answer (number a given (lent lx work)) (upOf a))
       × (lent out1 work1 ≡ leaves r.number (needed a.pattern) (written (entries (upper (columns a.pattern))) (upOf a) lx) (lent lx work))
 
-  module _ {r : ℕ} {work1 : Scratch} (e : (r ≡ lowest (judged_factor a given (length lx) work)) × (work1 ≡ worked r (needed (pattern nrows n p i)) work)) where
+  module _ {r : ℕ} {work1 : Scratch} (e : (r ≡ lowest (judged_factor a given (length lx) work)) ×
+      (work1 ≡ worked r (needed (pattern nrows n p i)) work)) where
     pub at-refused : (r ≡ 0 → ⊥) → {s : Factored} → s ≡ factored r 0 none → Answer s lx work1
     unfolding number
     at-refused h q = rw q (at_judge a given lx work rest (entries (upper (columns a.pattern))) (upOf a) e.0 h e.1)
@@ -135,9 +139,15 @@ module _ (nrows n : ℕ) (p i : List ℕ) (v : List Float) (tr up ui lp li : Lis
       unfolding worked
       wiped-is = e.1 ∙ (rw (h, P.need))
 
-      each : (work1.w1 ≡ cleared 0 (n + 1) w1) × (work1.w2 ≡ cleared 0 (n + 1) w2) × (work1.w3 ≡ cleared 0 (n + 1) w3) × (work1.x ≡ cleared none (n + 1) x)
+      each : (work1.w1 ≡ cleared 0 (n + 1) w1) × (work1.w2 ≡ cleared 0 (n + 1) w2) × (work1.w3 ≡ cleared 0 (n + 1) w3) ×
+          (work1.x ≡ cleared none (n + 1) x)
       unfolding wiped
-      each = (ap (λ (s : Scratch). s.w1) wiped-is, ap (λ (s : Scratch). s.w2) wiped-is, ap (λ (s : Scratch). s.w3) wiped-is, ap (λ (s : Scratch). s.x) wiped-is)
+      each = (
+        ap (λ (s : Scratch). s.w1) wiped-is,
+        ap (λ (s : Scratch). s.w2) wiped-is,
+        ap (λ (s : Scratch). s.w3) wiped-is,
+        ap (λ (s : Scratch). s.x) wiped-is,
+      )
 
       pub small : n ≤ 65535
       small = P.served.valid.pattern.cols
@@ -151,11 +161,13 @@ module _ (nrows n : ℕ) (p i : List ℕ) (v : List Float) (tr up ui lp li : Lis
       }
 
       module _ {s : Factored} {lx1 : List Float} (w1' : List ℕ) (x' : List Float)
-          (F : (s ≡ (upOf (matrix n n p i v)).answer) × (lx1 ≡ written (entries (upper (columns (pattern n n p i)))) (upOf (matrix n n p i v)) lx) × (cleared 0 (n + 1) w1' ≡ cleared 0 (n + 1) work1.w1) × (cleared none (n + 1) x' ≡ cleared none (n + 1) work1.x)) where
+          (F : (s ≡ (upOf (matrix n n p i v)).answer) × (lx1 ≡ written (entries (upper (columns (pattern n n p i)))) (upOf (matrix n n p i v)) lx) ×
+          (cleared 0 (n + 1) w1' ≡ cleared 0 (n + 1) work1.w1) × (cleared none (n + 1) x' ≡ cleared none (n + 1) work1.x)) where
         pub at_done : {work2 : Scratch} → work2 ≡ wiped (n + 1) (scratch w1' work1.w2 work1.w3 x') → Answer s lx1 work2
         unfolding number
         at_done c =
-            at-end a given lx work rest (entries (upper (columns a.pattern))) (upOf a) e.0 h refl (F.1 ∙ (rw P.square refl)) (c ∙ again ∙ (rw P.need refl)) (up_ends a) (F.0 ∙ (rw P.square refl))
+            at-end a given lx work rest (entries (upper (columns a.pattern))) (upOf a) e.0 h refl (F.1 ∙ (rw P.square refl)) (c ∙ again ∙
+            (rw P.need refl)) (up_ends a) (F.0 ∙ (rw P.square refl))
           where
             same : scratch (cleared 0 (n + 1) w1) (cleared 0 (n + 1) w2) (cleared 0 (n + 1) w3) (cleared none (n + 1) x) ≡ wiped (n + 1) work
             same = wiped_each (n + 1) work refl refl refl refl

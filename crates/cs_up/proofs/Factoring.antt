@@ -43,7 +43,8 @@ held-is : (n : ℕ) (lp next : List ℕ) (lx : List Float) → held n lp next lx
 unfolding held
 held-is n lp next lx = refl
 
-pub record Factoring (n : ℕ) (p i : List ℕ) (v : List Float) (up ui lp li : List ℕ) (lx₀ : List Float) (next₀ : List ℕ) (x₀ lx : List Float) (next : List ℕ) (x : List Float) (k : ℕ) : Type 0 where
+pub record Factoring (n : ℕ) (p i : List ℕ) (v : List Float) (up ui lp li : List ℕ) (lx₀ : List Float) (next₀ : List ℕ) (x₀ lx : List Float)
+    (next : List ℕ) (x : List Float) (k : ℕ) : Type 0 where
   pub lx_long : length lx ≡ length lx₀
   pub next_long : length next ≡ length next₀
   pub x_long : length x ≡ length x₀
@@ -51,7 +52,8 @@ pub record Factoring (n : ℕ) (p i : List ℕ) (v : List Float) (up ui lp li : 
   pub stands : Stands k k lp li next
   pub reached : Reached (step_of n p i v) n k (held k lp next lx)
 
-pub factoring-start : {n : ℕ} {p i : List ℕ} {v : List Float} {up ui lp li : List ℕ} {lx : List Float} {next : List ℕ} {x : List Float} → Ready n p i v up ui lp li lx next x
+pub factoring-start : {n : ℕ} {p i : List ℕ} {v : List Float} {up ui lp li : List ℕ} {lx : List Float} {next : List ℕ} {x : List Float} →
+    Ready n p i v up ui lp li lx next x
     → Factoring n p i v up ui lp li lx next x lx next x 0
 factoring-start {n} {p} {i} {v} {up} {ui} {lp} {li} {lx} {next} {x} r = record {
   lx_long = refl;
@@ -66,7 +68,8 @@ factoring-start {n} {p} {i} {v} {up} {ui} {lp} {li} {lx} {next} {x} r = record {
 abbrev Owed : ℕ → List ℕ → List ℕ → List Float → Factored → List Float → Type 0
 Owed n p i v r lx = (r ≡ (upOf (matrix n n p i v)).answer) × (r.number ≡ 0 → lx ≡ flatten (upOf (matrix n n p i v)).columns)
 
-module _ {n : ℕ} {p i : List ℕ} {v : List Float} {up ui lp li : List ℕ} {lx₀ : List Float} {next₀ : List ℕ} {x₀ lx : List Float} {next : List ℕ} {x : List Float} {k : ℕ}
+module _ {n : ℕ} {p i : List ℕ} {v : List Float} {up ui lp li : List ℕ} {lx₀ : List Float} {next₀ : List ℕ} {x₀ lx : List Float} {next : List ℕ}
+    {x : List Float} {k : ℕ}
     (w : Factoring n p i v up ui lp li lx₀ next₀ x₀ lx next x k) where
   abbrev R : Ready n p i v up ui lp li lx next x
   R = w.ready
@@ -84,8 +87,10 @@ module _ {n : ℕ} {p i : List ℕ} {v : List Float} {up ui lp li : List ℕ} {l
       pub factoring_closes : not (lt none pivot) ≡ false → length lx1 ≡ length lx → length next1 ≡ length next → Closes k lp lx1 next1
       factoring_closes t l m = column_closes R h g (not-false (lt none pivot) t) l m
 
-      pub factoring-turn : {lx2 : List Float} {next2 : List ℕ} → not (lt none pivot) ≡ false → length lx1 ≡ length lx → length next1 ≡ length next → length x1 ≡ length x
-          → (lx2 ≡ set lx1 (get_or lp k 0) (root_of pivot)) × (next2 ≡ set next1 k (get_or lp k 0 + 1)) → Factoring n p i v up ui lp li lx₀ next₀ x₀ lx2 next2 x1 (k + 1)
+      pub factoring-turn : {lx2 : List Float} {next2 : List ℕ} → not (lt none pivot) ≡ false → length lx1 ≡ length lx → length next1 ≡ length next →
+          length x1 ≡ length x
+          → (lx2 ≡ set lx1 (get_or lp k 0) (root_of pivot)) × (next2 ≡ set next1 k (get_or lp k 0 + 1)) →
+          Factoring n p i v up ui lp li lx₀ next₀ x₀ lx2 next2 x1 (k + 1)
       factoring-turn t l m o c =
           let b : lt none pivot ≡ true = not-false (lt none pivot) t in
           rw (c.0, c.1)
@@ -118,7 +123,12 @@ module _ {n : ℕ} {p i : List ℕ} {v : List Float} {up ui lp li : List ℕ} {l
         ⊎_elim
         (λ (e : get_or next j 0 ≡ get_or lp (j + 1) 0). e)
         (λ (l : get_or next j 0 < get_or lp (j + 1) 0).
-        absurd (omega (arith, c.after (get_or next j 0) (omega arith) l, (upward R.served ((lies R.served).entry j (get_or next j 0) b c.low l)).1, at-end)))
+        absurd (omega (
+          arith,
+          c.after (get_or next j 0) (omega arith) l,
+          (upward R.served ((lies R.served).entry j (get_or next j 0) b c.low l)).1,
+          at-end,
+        )))
         (eq-or-lt_of_le c.high)
 
     whole : lx ≡ flatten (held n lp next lx)

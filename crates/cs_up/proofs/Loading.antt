@@ -55,7 +55,8 @@ module _ {k : ℕ} {rows : List ℕ} {vals x₀ x : List Float} {q : ℕ} (w : L
 
     later : (z : ℕ) → z < length (drop q rows) → get_or rows q 0 ≤ get_or (drop q rows) z 0
     later zero l = let z : q + 0 ≡ q = omega arith in rw (get_or-drop q rows 0 0, z) (omega arith)
-    later (suc z) l = rw (get_or-drop q rows (suc z) 0) (omega (arith, rises-apart rows w.ask.rise q (q + suc z) (omega arith) (omega (arith, length-drop q rows))))
+    later (suc z) l = rw (get_or-drop q rows (suc z) 0)
+        (omega (arith, rises-apart rows w.ask.rise q (q + suc z) (omega arith) (omega (arith, length-drop q rows))))
 
     pub loading_stop : k < i → x ≡ over (put_at k) rows vals x₀
     loading_stop g = sym (w.rest.rest ∙ puts_none k (drop q rows) (drop q vals) x (λ z l. omega (arith, later z l)))
@@ -75,14 +76,16 @@ length-put k (r ∷ rows) (v ∷ vals) x = length-put k rows vals _ ∙ go (leb 
     go false = refl
 
 -- at a place that is no row at or above k
-pub put_other : (k : ℕ) (rows : List ℕ) (vals x : List Float) (i : ℕ) → ((z : ℕ) → z < length rows → get_or rows z 0 ≡ i → i ≤ k → ⊥) → get_or (over (put_at k) rows vals x) i nan ≡ get_or x i nan
+pub put_other : (k : ℕ) (rows : List ℕ) (vals x : List Float) (i : ℕ) → ((z : ℕ) → z < length rows → get_or rows z 0 ≡ i → i ≤ k → ⊥) →
+    get_or (over (put_at k) rows vals x) i nan ≡ get_or x i nan
 unfolding over
 put_other k [] vals x i h = refl
 put_other k (r ∷ rows) [] x i h = refl
 put_other k (r ∷ rows) (v ∷ vals) x i h =
     put_other k rows vals (put_at k r v x) i (λ z l. h (suc z) (omega arith))
     ∙ ⊎_elim
-    (λ (g : r ≤ k). ap (λ (y : List Float). get_or y i nan) (sym (put-set k r v x g)) ∙ get_or-set_other x r i v nan (λ (e : i ≡ r). h 0 (omega arith) (sym e) (omega arith)))
+    (λ (g : r ≤ k). ap (λ (y : List Float). get_or y i nan) (sym (put-set k r v x g)) ∙
+    get_or-set_other x r i v nan (λ (e : i ≡ r). h 0 (omega arith) (sym e) (omega arith)))
     (λ (g : k < r). ap (λ (y : List Float). get_or y i nan) (put_past k r v x g))
     (le-or-lt r k)
 

@@ -41,7 +41,8 @@ module _ (par : List ℕ) (us : List (List ℕ)) (k r : ℕ) (o : r ≤ k) (pare
         let p = f (omega (arith, l)) in
         ⊎_elim
         (λ (e : get_or par j root ≡ r). rw e at p)
-        (λ (s : get_or par j root < r). walk (λ l z. behind_head b (get_or par j root) (omega (arith, q.0)) z (crosses j (get_or par j root) r q.0 s q.1 m) s) w p)
+        (λ (s : get_or par j root < r). walk (λ l z. behind_head b (get_or par j root) (omega (arith, q.0)) z
+        (crosses j (get_or par j root) r q.0 s q.1 m) s) w p)
         (eq-or-lt_of_le l)
   ]
 
@@ -72,7 +73,8 @@ module _ {n room : ℕ} {p i : List ℕ} {v : List Float} {up ui lp li : List �
     size = laid-size S.l_laid in_ls refl refl
 
     row_at : (z : ℕ) → lo ≤ z → z < hi → get_or li z 0 ≡ get_or (get_or (lower C) j []) (z - lo) 0
-    row_at z a b = let e : lo + (z - lo) ≡ z = omega arith in (rw e at (sym (get_d_part lo hi li (z - lo) 0 (omega arith)))) ∙ ap (λ (l : List ℕ). get_or l (z - lo) 0) (S.l_laid.column j in_ls)
+    row_at z a b = let e : lo + (z - lo) ≡ z = omega arith in (rw e at (sym (get_d_part lo hi li (z - lo) 0 (omega arith)))) ∙
+        ap (λ (l : List ℕ). get_or l (z - lo) 0) (S.l_laid.column j in_ls)
 
   pub lies : Lies n (entries (upper C)) (upper C) lp li
   unfolding entries
@@ -85,8 +87,10 @@ module _ {n room : ℕ} {p i : List ℕ} {v : List Float} {up ui lp li : List �
     climb = λ j h. laid_order S.l_laid (in_ls h) refl refl;
     end = S.l_laid.pointed.at n (omega (arith, S.l_long)) ∙ ap entries (take_all n (lower C) (omega (arith, S.l_long))) ∙ S.promised.counts;
     rise = λ j y z h a b c.
-        rw (row_at h y a (omega arith), row_at h z (omega arith) c) (rises-apart (get_or (lower C) j []) (rising_rises (S.promised.rise j)) (y - get_or lp j 0) (z - get_or lp j 0) (omega arith) (omega (arith, size h)));
-    entry = λ j z h a b. (S.promised.across j (get_or li z 0)).0 (rw (row_at h z a b) (member_at (get_or (lower C) j []) (z - get_or lp j 0) (omega (arith, size h))));
+        rw (row_at h y a (omega arith), row_at h z (omega arith) c) (rises-apart (get_or (lower C) j []) (rising_rises (S.promised.rise j))
+        (y - get_or lp j 0) (z - get_or lp j 0) (omega arith) (omega (arith, size h)));
+    entry = λ j z h a b. (S.promised.across j (get_or li z 0)).0
+        (rw (row_at h z a b) (member_at (get_or (lower C) j []) (z - get_or lp j 0) (omega (arith, size h))));
     place = λ j k m.
         let u = upward m in
         let h : j < n = omega arith in
@@ -95,10 +99,12 @@ module _ {n room : ℕ} {p i : List ℕ} {v : List Float} {up ui lp li : List �
           at = get_or lp j 0 + s.at;
           from = omega arith;
           to = omega (arith, size h, s.inside);
-          is = row_at h (get_or lp j 0 + s.at) (omega arith) (omega (arith, size h, s.inside)) ∙ ap (λ (z : ℕ). get_or (get_or (lower C) j []) z 0) {x = get_or lp j 0 + s.at - get_or lp j 0} {y = s.at} (omega arith) ∙ s.is;
+          is = row_at h (get_or lp j 0 + s.at) (omega arith) (omega (arith, size h, s.inside)) ∙
+              ap (λ (z : ℕ). get_or (get_or (lower C) j []) z 0) {x = get_or lp j 0 + s.at - get_or lp j 0} {y = s.at} (omega arith) ∙ s.is;
         };
     upward = λ j k m. upward m;
     once = S.promised.once;
     behind = λ k q r h m g o.
-        behind_head (tree C) (upper C) k r o (λ j m. S.promised.parent j (omega (arith, upward m, columns_long S.valid.pattern))) S.promised.closed.crosses r (get_or (get_or (upper C) k []) q 0) (omega arith) (behind_drop (S.promised.order k) q h) m g;
+        behind_head (tree C) (upper C) k r o (λ j m. S.promised.parent j (omega (arith, upward m, columns_long S.valid.pattern)))
+        S.promised.closed.crosses r (get_or (get_or (upper C) k []) q 0) (omega arith) (behind_drop (S.promised.order k) q h) m g;
   }

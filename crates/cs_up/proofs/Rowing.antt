@@ -49,8 +49,10 @@ pub climbs : {n t : ℕ} {us : List (List ℕ)} {lp li : List ℕ} → Lies n t 
 climbs {n = n} {lp = lp} l a b h g = steps-climb n lp l.climb a b h g
 
 -- ---- the definition's step of one column, by its parts
-row_parts : (k j : ℕ) (rows : List ℕ) (vals x : List Float) (pivot t : Float) (done : List (List Float)) → get_or done j [] ≡ vals → t ≡ div binary64 (get_or x j nan) (value_at j rows vals)
-    → way (over (sub_at j k t) rows vals (set x j none)) (sub binary64 pivot (mul binary64 t t)) (set done j (vals ++ (t ∷ []))) ≡ row_at k rows j (way x pivot done)
+row_parts : (k j : ℕ) (rows : List ℕ) (vals x : List Float) (pivot t : Float) (done : List (List Float)) → get_or done j [] ≡ vals →
+    t ≡ div binary64 (get_or x j nan) (value_at j rows vals)
+    → way (over (sub_at j k t) rows vals (set x j none)) (sub binary64 pivot (mul binary64 t t)) (set done j (vals ++ (t ∷ [])))
+    ≡ row_at k rows j (way x pivot done)
 unfolding row_at
 row_parts k j rows vals x pivot t done e f = rw (e, ← f)
 
@@ -62,7 +64,8 @@ unfolding column
 column-part lp li j e = rw e
 
 -- rows of column j that are not past k are behind j in U's column k
-behind_in : {n t k j q r : ℕ} {us : List (List ℕ)} {u lp li : List ℕ} → Lies n t us lp li → u ≡ get_or us k [] → q < length u → j ≡ get_or u q 0 → In us j r → j < r → r ≤ k → Memᴰ r (drop (q + 1) u)
+behind_in : {n t k j q r : ℕ} {us : List (List ℕ)} {u lp li : List ℕ} → Lies n t us lp li → u ≡ get_or us k [] → q < length u → j ≡ get_or u q 0 →
+    In us j r → j < r → r ≤ k → Memᴰ r (drop (q + 1) u)
 behind_in {k = k} {j = j} {q = q} {r = r} {us = us} l e h f m g o =
     let z : j ≡ get_or (get_or us k []) q 0 = f ∙ ap (λ (v : List ℕ). get_or v q 0) e in
     rw e (l.behind k q r (rw e at h) (rw z at m) (omega arith) o)
@@ -71,7 +74,8 @@ behind_in {k = k} {j = j} {q = q} {r = r} {us = us} l e h f m g o =
 abbrev step : ℕ → List ℕ → List ℕ → ℕ → Way → Way
 step k lp li j s = cond (ltb j k) (row_at k (column lp j li) j s) s
 
-pub record Rowing (k : ℕ) (u lp li : List ℕ) (lx₀ : List Float) (next₀ : List ℕ) (x₀ : List Float) (first : Float) (lx : List Float) (next : List ℕ) (x : List Float) (pivot : Float) (q : ℕ) : Type 0 where
+pub record Rowing (k : ℕ) (u lp li : List ℕ) (lx₀ : List Float) (next₀ : List ℕ) (x₀ : List Float) (first : Float) (lx : List Float) (next : List ℕ)
+    (x : List Float) (pivot : Float) (q : ℕ) : Type 0 where
   pub ask : Rows k u lp li lx₀ next₀ x₀
   pub lx_long : length lx ≡ length lx₀
   pub next_long : length next ≡ length next₀
@@ -82,7 +86,8 @@ pub record Rowing (k : ℕ) (u lp li : List ℕ) (lx₀ : List Float) (next₀ :
   pub zero : (i : ℕ) → i < ask.n → (i < k → ¬ Memᴰ i (drop q u)) → get_or x i nan ≡ none
 
 -- a column that row k is not in
-cut_more : {k j : ℕ} {u lp li next : List ℕ} {lx x : List Float} → Rows k u lp li lx next x → j < k → ¬ Memᴰ j u → Cut li (get_or lp j 0) (get_or next j 0) (get_or lp (j + 1) 0) (k + 1)
+cut_more : {k j : ℕ} {u lp li next : List ℕ} {lx x : List Float} → Rows k u lp li lx next x → j < k → ¬ Memᴰ j u →
+    Cut li (get_or lp j 0) (get_or next j 0) (get_or lp (j + 1) 0) (k + 1)
 cut_more {k} {j} {u} {lp} {li} {next} a h n =
     let c = a.stands.cut j h in
     record {
@@ -95,7 +100,8 @@ cut_more {k} {j} {u} {lp} {li} {next} a h n =
           omega (arith, o, d);
     }
 
-pub rowing_start : {k : ℕ} {u lp li : List ℕ} {lx : List Float} {next : List ℕ} {x : List Float} (first : Float) → Rows k u lp li lx next x → Rowing k u lp li lx next x first lx next x first 0
+pub rowing_start : {k : ℕ} {u lp li : List ℕ} {lx : List Float} {next : List ℕ} {x : List Float} (first : Float) → Rows k u lp li lx next x →
+    Rowing k u lp li lx next x first lx next x first 0
 rowing_start {k} {u} {lp} {li} {lx} {next} {x} first a =
     record {
       ask = a;
@@ -108,7 +114,8 @@ rowing_start {k} {u} {lp} {li} {lx} {next} {x} first a =
       zero = a.zero;
     }
 
-module _ {k : ℕ} {u lp li : List ℕ} {lx₀ : List Float} {next₀ : List ℕ} {x₀ : List Float} {first : Float} {lx : List Float} {next : List ℕ} {x : List Float} {pivot : Float} {q : ℕ}
+module _ {k : ℕ} {u lp li : List ℕ} {lx₀ : List Float} {next₀ : List ℕ} {x₀ : List Float} {first : Float} {lx : List Float} {next : List ℕ}
+    {x : List Float} {pivot : Float} {q : ℕ}
     (w : Rowing k u lp li lx₀ next₀ x₀ first lx next x pivot q) where
   abbrev a : Rows k u lp li lx₀ next₀ x₀
   a = w.ask
@@ -164,7 +171,12 @@ module _ {k : ℕ} {u lp li : List ℕ} {lx₀ : List Float} {next₀ : List ℕ
           ⊎_elim
           (λ (o : e ≤ p.at). ⊎_elim
           (λ (m : p.at ≤ e). omega arith)
-          (λ (m : e < p.at). absurd (omega (arith, a.lies.rise j e p.at (omega (arith, a.here)) (omega (arith, cut.low)) m p.to, p.is, cut.after e (omega arith) (omega (arith, p.to)))))
+          (λ (m : e < p.at). absurd (omega (
+            arith,
+            a.lies.rise j e p.at (omega (arith, a.here)) (omega (arith, cut.low)) m p.to,
+            p.is,
+            cut.after e (omega arith) (omega (arith, p.to)),
+          )))
           (le-or-lt p.at e))
           (λ (o : p.at < e). absurd (omega (arith, cut.before p.at l o, p.is)))
           (le-or-lt e p.at) in
@@ -174,13 +186,17 @@ module _ {k : ℕ} {u lp li : List ℕ} {lx₀ : List Float} {next₀ : List ℕ
       first-row = rw b (a.stands.first j g)
 
       begun : s < e
-      begun = ⊎_elim (λ (o : e ≤ s). absurd (omega (arith, cut.after s o (omega (arith, a.stands.some j g)), first-row))) (λ (o : s < e). o) (le-or-lt e s)
+      begun = ⊎_elim (λ (o : e ≤ s). absurd (omega (arith, cut.after s o (omega (arith, a.stands.some j g)), first-row))) (λ (o : s < e). o)
+          (le-or-lt e s)
 
       hi_in : hi ≤ a.t
       hi_in = omega (arith, climbs a.lies (j + 1) a.n (omega (arith, a.here)) (omega arith), a.lies.end)
 
       between : (z : ℕ) → s < z → z < e → (j < get_or li z 0) × (get_or li z 0 < k)
-      between z l m = (omega (arith, a.lies.rise j s z (omega (arith, a.here)) (omega arith) l (omega (arith, at_e.0)), first-row), cut.before z (omega arith) m)
+      between z l m = (
+        omega (arith, a.lies.rise j s z (omega (arith, a.here)) (omega arith) l (omega (arith, at_e.0)), first-row),
+        cut.before z (omega arith) m,
+      )
 
       -- what is asked on the way
       pub row-in-next : j < length next
@@ -228,7 +244,8 @@ module _ {k : ℕ} {u lp li : List ℕ} {lx₀ : List Float} {next₀ : List ℕ
         row_is =
             same_way (sym (ap (λ (z : List ℕ). over (sub_at j k t) z (part s e lx) (set x j none)) (column-part lp li j b) ∙ takes t (set x j none)))
             (held-push k j e lp next lx t g row-in-next (sym c) (omega (arith, cut.low)) row_reads.room apart ∙ (rw (← b)))
-            ∙ row_parts k j (column lp j li) (part s e lx) x pivot t (held k lp next lx) (held_at k lp next lx j g ∙ (rw (b, c))) (d ∙ (rw (column-part lp li j b, first-value j k s e hi li lx begun (omega (arith, at_e.0)) in_li in_lx first-row)))
+            ∙ row_parts k j (column lp j li) (part s e lx) x pivot t (held k lp next lx) (held_at k lp next lx j g ∙ (rw (b, c)))
+            (d ∙ (rw (column-part lp li j b, first-value j k s e hi li lx begun (omega (arith, at_e.0)) in_li in_lx first-row)))
           where
             in_li : hi ≤ length li
             in_li = omega (arith, hi_in, a.lies.in_li)
@@ -236,7 +253,8 @@ module _ {k : ℕ} {u lp li : List ℕ} {lx₀ : List Float} {next₀ : List ℕ
             in_lx : e ≤ length lx
             in_lx = omega (arith, row_reads.room)
 
-            takes : (t : Float) (x : List Float) → over (sub_at j k t) (part s hi li) (part s e lx) x ≡ over (take_at t) (part (s + 1) e li) (part (s + 1) e lx) x
+            takes : (t : Float) (x : List Float) → over (sub_at j k t) (part s hi li) (part s e lx) x
+                ≡ over (take_at t) (part (s + 1) e li) (part (s + 1) e lx) x
             takes = column-takes j k s e hi li lx begun (omega (arith, at_e.0)) in_li in_lx first-row between
 
         -- column j with row k
@@ -244,7 +262,8 @@ module _ {k : ℕ} {u lp li : List ℕ} {lx₀ : List Float} {next₀ : List ℕ
         cut_now = rw (get_or-set_same next j (e + 1) 0 row-in-next, ← b) (record {
           low = omega (arith, cut.low);
           high = omega (arith, at_e.0);
-          before = λ z l m. ⊎_elim (λ (o : e ≤ z). let y : z ≡ e = omega arith in rw y (omega (arith, at_e.1))) (λ (o : z < e). omega (arith, cut.before z l o)) (le-or-lt e z);
+          before = λ z l m. ⊎_elim (λ (o : e ≤ z). let y : z ≡ e = omega arith in rw y (omega (arith, at_e.1)))
+              (λ (o : z < e). omega (arith, cut.before z l o)) (le-or-lt e z);
           after = λ z l m. omega (arith, a.lies.rise j e z (omega (arith, a.here)) (omega (arith, cut.low, b)) (omega arith) m, at_e.1);
         })
 
@@ -264,7 +283,8 @@ module _ {k : ℕ} {u lp li : List ℕ} {lx₀ : List Float} {next₀ : List ℕ
           x_long = length_taken t (part (s + 1) e li) (part (s + 1) e lx) (set x j none) ∙ length-set x j none ∙ w.x_long;
           rest = along-turn (step k lp li) u 0 w.rest h (row_is ∙ (rw (← f, lt-ltb j k g)));
           todo = λ i l m. rw (get_or-set_other next j i (e + 1) 0 (other m)) (w.todo i l (later m));
-          done = λ i l o. ⊎_elim (λ (z : i ≡ j). rw z cut_now) (λ (z : i ≡ j → ⊥). rw (get_or-set_other next j i (e + 1) 0 z) (w.done i l (not_now z o))) (eq-or-ne i j);
+          done = λ i l o. ⊎_elim (λ (z : i ≡ j). rw z cut_now) (λ (z : i ≡ j → ⊥). rw (get_or-set_other next j i (e + 1) 0 z)
+              (w.done i l (not_now z o))) (eq-or-ne i j);
           zero = λ i l o.
               taken_other t (part (s + 1) e li) (part (s + 1) e lx) (set x j none) i (not_taken i o)
               ∙ ⊎_elim
@@ -277,7 +297,8 @@ module _ {k : ℕ} {u lp li : List ℕ} {lx₀ : List Float} {next₀ : List ℕ
             other {i} m z = once_behind (rw a.is (a.lies.once k)) q h (rw (z ∙ f) at m)
 
         -- the same, as the code leaves it
-        pub rowing_next : {lx' : List Float} {next' : List ℕ} {x' : List Float} {pivot' : Float} → lx' ≡ lx1 → next' ≡ set next j (get_or next j 0 + 1) → x' ≡ x1 → pivot' ≡ sub binary64 pivot (mul binary64 t t)
+        pub rowing_next : {lx' : List Float} {next' : List ℕ} {x' : List Float} {pivot' : Float} → lx' ≡ lx1 →
+            next' ≡ set next j (get_or next j 0 + 1) → x' ≡ x1 → pivot' ≡ sub binary64 pivot (mul binary64 t t)
             → Rowing k u lp li lx₀ next₀ x₀ first lx' next' x' pivot' (q + 1)
         rowing_next l m y p = let z : set next j (get_or next j 0 + 1) ≡ next1 = (rw c refl) in rw (l, m, z, y, p) rowing_turn
 

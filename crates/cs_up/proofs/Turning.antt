@@ -50,7 +50,8 @@ none-stops : lt none none ≡ false
 unfolding lt of_bits
 none-stops = refl
 
-module _ {n k : ℕ} {p i : List ℕ} {v : List Float} {up ui lp li : List ℕ} {lx : List Float} {next : List ℕ} {x : List Float} (R : Ready n p i v up ui lp li lx next x) (here : k < n) where
+module _ {n k : ℕ} {p i : List ℕ} {v : List Float} {up ui lp li : List ℕ} {lx : List Float} {next : List ℕ} {x : List Float}
+    (R : Ready n p i v up ui lp li lx next x) (here : k < n) where
   abbrev S : Served n p i v up ui lp li R.room
   S = R.served
 
@@ -114,7 +115,8 @@ module _ {n k : ℕ} {p i : List ℕ} {v : List Float} {up ui lp li : List ℕ} 
       put_other k rows vals x j (λ z l e m. o (rw e at (stored-in z l (rw e m))))
       ∙ (rw R.zeros (get_or-replicate n j none nan h))
 
-  rows_asked : {b f : ℕ} {x1 : List Float} → Stands k k lp li next → b ≡ get_or up k 0 → f ≡ get_or up (k + 1) 0 → x1 ≡ set (over (put_at k) rows vals x) k none → Rows k (part b f ui) lp li lx next x1
+  rows_asked : {b f : ℕ} {x1 : List Float} → Stands k k lp li next → b ≡ get_or up k 0 → f ≡ get_or up (k + 1) 0 →
+      x1 ≡ set (over (put_at k) rows vals x) k none → Rows k (part b f ui) lp li lx next x1
   rows_asked {x1 = x1} st y z e =
       record {
         n = n;
@@ -140,29 +142,31 @@ module _ {n k : ℕ} {p i : List ℕ} {v : List Float} {up ui lp li : List ℕ} 
 
   -- what `start` answers and leaves
   module _ {a e : ℕ} (f : a ≡ get_or p k 0) (g : e ≡ get_or p (k + 1) 0) {x1 : List Float} {first : Float}
-      (u : (first ≡ get_or (over (put_at k) (part a e i) (part a e v) x) k nan) × (x1 ≡ set (over (put_at k) (part a e i) (part a e v) x) k none)) where
-    put_is : over (put_at k) (part a e i) (part a e v) x ≡ over (put_at k) rows vals x
-    put_is = rw (column-is (stored f g) i, column-is (stored f g) v)
+      (u : (first ≡ get_or (over (put_at k) (part a e i) (part a e v) x) k nan) × (x1 ≡ set (over (put_at k) (part a e i) (part a e v) x) k none))
+    where
+      put_is : over (put_at k) (part a e i) (part a e v) x ≡ over (put_at k) rows vals x
+      put_is = rw (column-is (stored f g) i, column-is (stored f g) v)
 
-    x1_is : x1 ≡ set (over (put_at k) rows vals x) k none
-    x1_is = u.1 ∙ ap (λ (y : List Float). set y k none) put_is
+      x1_is : x1 ≡ set (over (put_at k) rows vals x) k none
+      x1_is = u.1 ∙ ap (λ (y : List Float). set y k none) put_is
 
-    module _ {b h : ℕ} (y : b ≡ get_or up k 0) (z : h ≡ get_or up (k + 1) 0) where
-      pub column-rows : Stands k k lp li next → Rows k (part b h ui) lp li lx next x1
-      column-rows st = rows_asked st y z x1_is
+      module _ {b h : ℕ} (y : b ≡ get_or up k 0) (z : h ≡ get_or up (k + 1) 0) where
+        pub column-rows : Stands k k lp li next → Rows k (part b h ui) lp li lx next x1
+        column-rows st = rows_asked st y z x1_is
 
-      started_on : way x1 first (held k lp next lx) ≡ start_on k rows vals x (held k lp next lx)
-      unfolding start_on
-      started_on = λ t. record { x = x1_is t; pivot = (u.0 ∙ ap (λ (y : List Float). get_or y k nan) put_is) t; columns = held k lp next lx }
+        started_on : way x1 first (held k lp next lx) ≡ start_on k rows vals x (held k lp next lx)
+        unfolding start_on
+        started_on = λ t. record { x = x1_is t; pivot = (u.0 ∙ ap (λ (y : List Float). get_or y k nan) put_is) t; columns = held k lp next lx }
 
-      pub column-gone : {lx1 : List Float} {next1 : List ℕ} {x2 : List Float} {pivot : Float}
-          → (way x2 pivot (held k lp next1 lx1) ≡ goes k lp li (part b h ui) (way x1 first (held k lp next lx))) × Rowed k lp li next1 x2 → Gone k p i v up ui lp li lx next x lx1 next1 x2 pivot
-      column-gone w =
-          let c : part b h ui ≡ column up k ui = (rw (y, z) (sym (column_of up k ui))) in
-          record {
-            is = w.0 ∙ ap (λ (l : List ℕ). goes k lp li l (way x1 first (held k lp next lx))) c ∙ ap (goes k lp li (column up k ui)) started_on;
-            rowed = w.1;
-          }
+        pub column-gone : {lx1 : List Float} {next1 : List ℕ} {x2 : List Float} {pivot : Float}
+            → (way x2 pivot (held k lp next1 lx1) ≡ goes k lp li (part b h ui) (way x1 first (held k lp next lx))) × Rowed k lp li next1 x2 →
+            Gone k p i v up ui lp li lx next x lx1 next1 x2 pivot
+        column-gone w =
+            let c : part b h ui ≡ column up k ui = (rw (y, z) (sym (column_of up k ui))) in
+            record {
+              is = w.0 ∙ ap (λ (l : List ℕ). goes k lp li l (way x1 first (held k lp next lx))) c ∙ ap (goes k lp li (column up k ui)) started_on;
+              rowed = w.1;
+            }
 
   -- ---- the definition's column
   abbrev step : ℕ → List (List Float) → Step
@@ -265,7 +269,8 @@ module _ {n k : ℕ} {p i : List ℕ} {v : List Float} {up ui lp li : List ℕ} 
 
         pub stands_more : Stands (k + 1) (k + 1) lp li (set next1 k (lo + 1))
         stands_more = record {
-          cut = λ j h. or j h (λ b. rw (get_or-set_other next1 k j (lo + 1) 0 (λ e. omega arith)) (w.rowed.stands.cut j b)) (λ e. rw (e, get_or-set_same next1 k (lo + 1) 0 column_closes.in_next) own_cut);
+          cut = λ j h. or j h (λ b. rw (get_or-set_other next1 k j (lo + 1) 0 (λ e. omega arith)) (w.rowed.stands.cut j b))
+              (λ e. rw (e, get_or-set_same next1 k (lo + 1) 0 column_closes.in_next) own_cut);
           some = λ j h. or j h (w.rowed.stands.some j) (λ e. rw e starts.0);
           first = λ j h. or j h (w.rowed.stands.first j) (λ e. rw e starts.1);
         }

@@ -88,7 +88,8 @@ pub record Lies (n t : ℕ) (us : List (List ℕ)) (lp li : List ℕ) : Type 0 w
   pub upward : (j k : ℕ) → In us j k → (j ≤ k) × (k < n)
   pub once : (k : ℕ) → Once (get_or us k [])
   -- each row of column j at or before k is behind j in column k of U
-  pub behind : (k q r : ℕ) → q < length (get_or us k []) → In us (get_or (get_or us k []) q 0) r → get_or (get_or us k []) q 0 < r → r ≤ k → Memᴰ r (drop (q + 1) (get_or us k []))
+  pub behind : (k q r : ℕ) → q < length (get_or us k []) → In us (get_or (get_or us k []) q 0) r → get_or (get_or us k []) q 0 < r → r ≤ k →
+      Memᴰ r (drop (q + 1) (get_or us k []))
 
 -- column k on its way, before the columns that u names: L's first k columns are worked out in the rows below k, and x has values
 -- at rows of u above k only
@@ -135,7 +136,8 @@ pub record Turns (k : ℕ) (p i : List ℕ) (v : List Float) (up ui lp li : List
   pub stands : Stands k k lp li next
 
 -- column k gone through: x1, the pivot and L's columns are those of the steps, L's columns are worked out in row k too, and x is zeros
-pub record Gone (k : ℕ) (p i : List ℕ) (v : List Float) (up ui lp li : List ℕ) (lx : List Float) (next : List ℕ) (x lx1 : List Float) (next1 : List ℕ) (x1 : List Float) (pivot : Float) : Type 0 where
+pub record Gone (k : ℕ) (p i : List ℕ) (v : List Float) (up ui lp li : List ℕ) (lx : List Float) (next : List ℕ) (x lx1 : List Float)
+    (next1 : List ℕ) (x1 : List Float) (pivot : Float) : Type 0 where
   pub is : way x1 pivot (held k lp next1 lx1) ≡ goes k lp li (column up k ui) (start_on k (column p k i) (column p k v) x (held k lp next lx))
   pub rowed : Rowed k lp li next1 x1
 

@@ -12,4 +12,5 @@ pub column-number : (a : Matrix) → Valid a → (j : ℕ) → j < a.pattern.nco
 column-number a ok j h =
     let p = a.pattern.p in
     let inside : get_or p (j + 1) 0 ≤ length a.pattern.i = at_most ok.pattern.ptrs (j + 1) (omega (arith, h, ok.pattern.p_long)) in
-    sym (number_same _ _ (length-column p j a.pattern.i inside ∙ sym (length-column p j a.v (subst (λ (n : ℕ). get_or p (j + 1) 0 ≤ n) ok.v_long inside))))
+    sym (number_same _ _ (length-column p j a.pattern.i inside ∙
+    sym (length-column p j a.v (subst (λ (n : ℕ). get_or p (j + 1) 0 ≤ n) ok.v_long inside))))

@@ -35,7 +35,8 @@ module _ (i : List ℕ) (v : List Float) where
 
   -- number 0 says that the lengths are equal
   pub number_means : number i v ≡ 0 → length i ≡ length v
-  number_means n = ⊎_elim (λ (e : length i ≡ length v). e) (λ (h : length i ≡ length v → ⊥). absurd (not-suc (number_differs h ∙ n))) (eq-or-ne (length i) (length v))
+  number_means n = ⊎_elim (λ (e : length i ≡ length v). e) (λ (h : length i ≡ length v → ⊥). absurd (not-suc (number_differs h ∙ n)))
+      (eq-or-ne (length i) (length v))
 
   given-same : length i ≡ length v → given i v ≡ pairs i v
   unfolding given
@@ -154,7 +155,8 @@ module _ (k : ℕ) (i : List ℕ) (v : List Float) where
 
   pub length_here : There → length i - k ≡ length (left k i v)
   unfolding left
-  length_here t = sym (ap (λ (l : List (ℕ × Float)). length (drop k l)) (given-same i v t.alike) ∙ length-drop k (pairs i v) ∙ ap (λ (n : ℕ). n - k) (length_pairs i v t.alike))
+  length_here t = sym (ap (λ (l : List (ℕ × Float)). length (drop k l)) (given-same i v t.alike) ∙ length-drop k (pairs i v) ∙
+      ap (λ (n : ℕ). n - k) (length_pairs i v t.alike))
 
   pub length-end : left k i v ≡ [] → 0 ≡ length (left k i v)
   length-end n = sym (ap length n)
@@ -167,7 +169,8 @@ left-rest (suc k) (x ∷ l) q = ap (λ (n : ℕ). drop n (x ∷ l)) (suc-add k 1
 
 moved-rest : (w : ColumnEntries) {e : ℕ × Float} {t : List (ℕ × Float)} → walked w ≡ e ∷ t → walked (moved w) ≡ t
 unfolding left after
-moved-rest w q = ap (λ (n : ℕ). drop n (given w.i.now w.v.now)) (ap (λ (l : List (ℕ × Float)). cond (some l) (w.curr + 1) w.curr) q) ∙ left-rest w.curr _ q
+moved-rest w q = ap (λ (n : ℕ). drop n (given w.i.now w.v.now)) (ap (λ (l : List (ℕ × Float)). cond (some l) (w.curr + 1) w.curr) q) ∙
+    left-rest w.curr _ q
 
 moved-end : (w : ColumnEntries) → walked w ≡ [] → walked (moved w) ≡ []
 unfolding left after

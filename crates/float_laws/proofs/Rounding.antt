@@ -39,8 +39,10 @@ even_odd m t o h = omega arith
 
 odd_pow : (m n a b : ℕ) → m % 2 ≡ 1 → n % 2 ≡ 1 → m * 2 ^ a ≡ n * 2 ^ b → (m ≡ n) × (a ≡ b)
 odd_pow m n zero zero o p h = (sym (mul-one m) ∙ h ∙ mul-one n, refl)
-odd_pow m n zero (suc b) o p h = absurd (even_odd m (n * 2 ^ b) o (sym (mul-one m) ∙ h ∙ ap (λ (x : ℕ). n * x) (pow-succ' 2 b) ∙ mul_left_comm n 2 (2 ^ b)))
-odd_pow m n (suc a) zero o p h = absurd (even_odd n (m * 2 ^ a) p (sym (mul-one n) ∙ sym h ∙ ap (λ (x : ℕ). m * x) (pow-succ' 2 a) ∙ mul_left_comm m 2 (2 ^ a)))
+odd_pow m n zero (suc b) o p h = absurd (even_odd m (n * 2 ^ b) o (sym (mul-one m) ∙ h ∙ ap (λ (x : ℕ). n * x) (pow-succ' 2 b) ∙
+    mul_left_comm n 2 (2 ^ b)))
+odd_pow m n (suc a) zero o p h = absurd (even_odd n (m * 2 ^ a) p (sym (mul-one n) ∙ sym h ∙ ap (λ (x : ℕ). m * x) (pow-succ' 2 a) ∙
+    mul_left_comm m 2 (2 ^ a)))
 odd_pow m n (suc a) (suc b) o p h =
     let r = odd_pow m n a b o p (eq_of_mul-eq-mul_right 2 (zero-lt-suc 1) (m * 2 ^ a) (n * 2 ^ b)
     (mul_assoc m (2 ^ a) 2 ∙ ap (λ (x : ℕ). m * x) (sym (pow-suc 2 a)) ∙ h ∙ ap (λ (x : ℕ). n * x) (pow-suc 2 b) ∙ sym (mul_assoc n (2 ^ b) 2))) in
@@ -82,13 +84,15 @@ value s m (negsuc k) f = round_exact binary64 s (suc m * 1) (2 ^ suc k) (suc m) 
     small = pow_le_back (suc k) 1074 f.least
 
     fine : suc m * 2 ^ (1074 - suc k) < 2 ^ (1074 + 1024)
-    fine = bound (suc m * 2 ^ (1074 - suc k)) (2 ^ (53 + (1074 - suc k))) (2 ^ (1074 + 1024)) (shl_lt 53 (1074 - suc k) f.digits) (pow_mono {i = 53 + (1074 - suc k)} {j = 1074 + 1024} (omega arith))
+    fine = bound (suc m * 2 ^ (1074 - suc k)) (2 ^ (53 + (1074 - suc k))) (2 ^ (1074 + 1024)) (shl_lt 53 (1074 - suc k) f.digits)
+        (pow_mono {i = 53 + (1074 - suc k)} {j = 1074 + 1024} (omega arith))
       where
         bound : (a b c : ℕ) → a < b → b ≤ c → a < c
         bound a b c p q = omega arith
 
     same : suc m * 1 * 2 ^ 1074 ≡ suc m * 2 ^ (1074 - suc k) * 2 ^ suc k
-    same = ap (λ (x : ℕ). x * 2 ^ 1074) (mul-one (suc m)) ∙ ap (λ (x : ℕ). suc m * 2 ^ x) whole ∙ ap (λ (x : ℕ). suc m * x) (pow-add 2 (1074 - suc k) (suc k)) ∙ sym (mul_assoc (suc m) (2 ^ (1074 - suc k)) (2 ^ suc k))
+    same = ap (λ (x : ℕ). x * 2 ^ 1074) (mul-one (suc m)) ∙ ap (λ (x : ℕ). suc m * 2 ^ x) whole ∙
+        ap (λ (x : ℕ). suc m * x) (pow-add 2 (1074 - suc k) (suc k)) ∙ sym (mul_assoc (suc m) (2 ^ (1074 - suc k)) (2 ^ suc k))
       where
         whole : 1074 ≡ 1074 - suc k + suc k
         whole = omega (arith, small)
@@ -97,11 +101,13 @@ value s m (negsuc k) f = round_exact binary64 s (suc m * 1) (2 ^ suc k) (suc m) 
 equal : (m : ℕ) (e : ℤ) → Fits m e → (r : Float) (s : Bool) → T (fits binary64 r) → HasValue r s (suc m * up e) (down e) → r ≡ fin s (suc m) e
 equal m e f nan s p v = elim v [ ]
 equal m e f (inf _) s p v = elim v [ ]
-equal m e f (fin t zero g) s p v = absurd (nothing (suc m * up e * down g) (mul-pos (mul-pos (zero-lt-suc m) (up_pos e)) (down_pos g)) (sym v.1 ∙ ap (λ (x : ℕ). x * down e) (zero-mul (up g)) ∙ zero-mul (down e)))
+equal m e f (fin t zero g) s p v = absurd (nothing (suc m * up e * down g) (mul-pos (mul-pos (zero-lt-suc m) (up_pos e)) (down_pos g)) (sym v.1 ∙
+    ap (λ (x : ℕ). x * down e) (zero-mul (up g)) ∙ zero-mul (down e)))
   where
     nothing : (a : ℕ) → 0 < a → a ≡ 0 → ⊥
     nothing a p h = omega arith
 equal m e f (fin t (suc n) g) s p v = let r = unique (suc n) (suc m) g e (fits_mean t n g p).odd f.odd v.1 in λ i. fin (v.0 i) (r.0 i) (r.1 i)
 
 pub round_own : (s : Bool) (m : ℕ) (e : ℤ) → T (fits binary64 (fin s (suc m) e)) → round binary64 s (suc m * up e) (down e) ≡ fin s (suc m) e
-round_own s m e t = equal m e (fits_mean s m e t) (round binary64 s (suc m * up e) (down e)) s (round-fits binary64 s (suc m * up e) (down e)) (value s m e (fits_mean s m e t))
+round_own s m e t = equal m e (fits_mean s m e t) (round binary64 s (suc m * up e) (down e)) s (round-fits binary64 s (suc m * up e) (down e))
+    (value s m e (fits_mean s m e t))

@@ -7,7 +7,8 @@ use native.Mathlib.Nat.{mul-one, one-mul, zero-mul, zero-add, add-zero, mul-pos,
 use native.Mathlib.Omega.{arith}
 use lib.Dec.{T, ltb, eqb, eqb→eq}
 use lib.IntN.{ℤ, pos, negsuc}
-use lib.Ieee.{Float, nan, inf, fin, binary64, of_bits, up, down, round, units, odd, size, neg, sum, add, sub, mul, div, eq, is_nan, unlike, level, fits}
+use lib.Ieee.{Float, nan, inf, fin, binary64, of_bits, up, down, round, units, odd, size, neg, sum, add, sub, mul, div, eq, is_nan, unlike, level}
+use lib.Ieee.{fits}
 use lib.Ieee.Fits.{up_pos, down_pos}
 use lib.Ieee.Scale.{round_same}
 use lib.Pow.{pow_pos}
@@ -32,7 +33,8 @@ round_none true = refl
 round_none false = refl
 
 round_zero : (s : Bool) (a c : ℕ) → a ≡ 0 → 0 < c → round binary64 s a c ≡ zero_of s
-round_zero s a c e h = ap (λ (x : ℕ). round binary64 s x c) e ∙ round_same binary64 s 0 c 0 1 h (zero-lt-suc 0) (zero-mul 1 ∙ sym (zero-mul c)) ∙ round_none s
+round_zero s a c e h = ap (λ (x : ℕ). round binary64 s x c) e ∙ round_same binary64 s 0 c 0 1 h (zero-lt-suc 0) (zero-mul 1 ∙ sym (zero-mul c)) ∙
+    round_none s
 
 -- ---- alike
 pub alike_sym : (x y : Float) → Alike x y → Alike y x
@@ -53,7 +55,11 @@ mul_at : (s : Bool) (v : Float) → finite v ≡ true → Zero (mul binary64 (ze
 unfolding mul
 mul_at s nan h = absurd (true≢false (sym h))
 mul_at s (inf t) h = absurd (true≢false (sym h))
-mul_at s (fin t n d) h = record { sign = unlike s t; is = round_zero (unlike s t) (0 * 1 * (n * up d)) (1 * down d) (zero-mul (n * up d)) (mul-pos (zero-lt-suc 0) (down_pos d)) }
+mul_at s (fin t n d) h = record {
+  sign = unlike s t;
+  is = round_zero (unlike s t) (0 * 1 * (n * up d)) (1 * down d) (zero-mul (n * up d))
+      (mul-pos (zero-lt-suc 0) (down_pos d));
+}
 
 pub mul-zero : (x v : Float) → Zero x → finite v ≡ true → Zero (mul binary64 x v)
 mul-zero x v z h = zero_alike _ _ (inl (ap (λ (y : Float). mul binary64 y v) (sym z.is))) (mul_at z.sign v h)
@@ -78,7 +84,8 @@ alike_by op at x y h =
 mul_alike_at : (s t : Bool) (v : Float) → Alike (mul binary64 (zero_of s) v) (mul binary64 (zero_of t) v)
 mul_alike_at s t v = go v (λ h. inr (mul_at s v h, mul_at t v h))
   where
-    go : (v : Float) → (finite v ≡ true → Alike (mul binary64 (zero_of s) v) (mul binary64 (zero_of t) v)) → Alike (mul binary64 (zero_of s) v) (mul binary64 (zero_of t) v)
+    go : (v : Float) → (finite v ≡ true → Alike (mul binary64 (zero_of s) v) (mul binary64 (zero_of t) v)) →
+        Alike (mul binary64 (zero_of s) v) (mul binary64 (zero_of t) v)
     go nan f = inl (mul_nan s t)
     go (inf u) f = inl (mul_inf s t u)
     go (fin u n d) f = f refl
@@ -88,16 +95,19 @@ mul_alike x y v h = alike_by (λ z. mul binary64 z v) (λ s t. mul_alike_at s t 
 
 -- ---- the operations on finite values, by their parts
 div_fin : (s : Bool) (m : ℕ) (e : ℤ) (t : Bool) (n : ℕ) (d : ℤ)
-    → div binary64 (fin s m e) (fin t n d) ≡ cond (eqb n 0) (cond (eqb m 0) nan (inf (unlike s t))) (round binary64 (unlike s t) (m * up e * down d) (n * up d * down e))
+    → div binary64 (fin s m e) (fin t n d) ≡ cond (eqb n 0) (cond (eqb m 0) nan (inf (unlike s t)))
+    (round binary64 (unlike s t) (m * up e * down d) (n * up d * down e))
 unfolding div
 div_fin s m e t n d = refl
 
-sub_fin : (s : Bool) (m : ℕ) (e : ℤ) (t : Bool) (n : ℕ) (d : ℤ) → sub binary64 (fin s m e) (fin t n d) ≡ sum binary64 s (m * up e * down d) (not t) (n * up d * down e) (down e * down d)
+sub_fin : (s : Bool) (m : ℕ) (e : ℤ) (t : Bool) (n : ℕ) (d : ℤ) → sub binary64 (fin s m e) (fin t n d) ≡ sum binary64 s (m * up e * down d) (not t)
+    (n * up d * down e) (down e * down d)
 unfolding sub add neg
 sub_fin s m e t n d = refl
 
 sum_is : (s : Bool) (a : ℕ) (t : Bool) (b c : ℕ)
-    → sum binary64 s a t b c ≡ cond (beq s t) (round binary64 s (a + b) c) (cond (ltb a b) (round binary64 t (b - a) c) (round binary64 (s && ltb b a) (a - b) c))
+    → sum binary64 s a t b c ≡ cond (beq s t) (round binary64 s (a + b) c)
+    (cond (ltb a b) (round binary64 t (b - a) c) (round binary64 (s && ltb b a) (a - b) c))
 unfolding sum
 sum_is s a t b c = refl
 
@@ -106,8 +116,10 @@ div_pos : (s t : Bool) (n : ℕ) (e : ℤ) → Zero (div binary64 (zero_of s) (f
 div_pos s t n e =
     record {
       sign = unlike s t;
-      is = div_fin s 0 (pos 0) t (suc n) e ∙ ap (λ (b : Bool). cond b (cond (eqb 0 0) nan (inf (unlike s t))) (round binary64 (unlike s t) (0 * 1 * down e) (suc n * up e * 1))) (ne_eqb (suc n) 0 (λ z. omega arith))
-          ∙ round_zero (unlike s t) (0 * 1 * down e) (suc n * up e * 1) (zero-mul (down e)) (mul-pos (mul-pos (zero-lt-suc n) (up_pos e)) (zero-lt-suc 0));
+      is = div_fin s 0 (pos 0) t (suc n) e ∙ ap (λ (b : Bool). cond b (cond (eqb 0 0) nan (inf (unlike s t)))
+          (round binary64 (unlike s t) (0 * 1 * down e) (suc n * up e * 1))) (ne_eqb (suc n) 0 (λ z. omega arith))
+          ∙ round_zero (unlike s t) (0 * 1 * down e) (suc n * up e * 1) (zero-mul (down e))
+          (mul-pos (mul-pos (zero-lt-suc n) (up_pos e)) (zero-lt-suc 0));
     }
 
 div_inf : (s t : Bool) → Zero (div binary64 (zero_of s) (inf t))
@@ -160,7 +172,8 @@ sum_left s t b c h = sum_is s 0 t b c ∙ go s t
     less : b - 0 ≡ b
     less = omega arith
 
-    go : (s t : Bool) → cond (beq s t) (round binary64 s (0 + b) c) (cond (ltb 0 b) (round binary64 t (b - 0) c) (round binary64 (s && ltb b 0) (0 - b) c)) ≡ round binary64 t b c
+    go : (s t : Bool) → cond (beq s t) (round binary64 s (0 + b) c)
+        (cond (ltb 0 b) (round binary64 t (b - 0) c) (round binary64 (s && ltb b 0) (0 - b) c)) ≡ round binary64 t b c
     go true true = ap (λ (x : ℕ). round binary64 true x c) (zero-add b)
     go false false = ap (λ (x : ℕ). round binary64 false x c) (zero-add b)
     go true false = rw (lt-ltb 0 b h) (ap (λ (x : ℕ). round binary64 false x c) less)
@@ -172,7 +185,8 @@ sum-right s t a c h = sum_is s a t 0 c ∙ go s t
     less : a - 0 ≡ a
     less = omega arith
 
-    go : (s t : Bool) → cond (beq s t) (round binary64 s (a + 0) c) (cond (ltb a 0) (round binary64 t (0 - a) c) (round binary64 (s && ltb 0 a) (a - 0) c)) ≡ round binary64 s a c
+    go : (s t : Bool) → cond (beq s t) (round binary64 s (a + 0) c)
+        (cond (ltb a 0) (round binary64 t (0 - a) c) (round binary64 (s && ltb 0 a) (a - 0) c)) ≡ round binary64 s a c
     go true true = ap (λ (x : ℕ). round binary64 true x c) (add-zero a)
     go false false = ap (λ (x : ℕ). round binary64 false x c) (add-zero a)
     go true false = rw (le-ltb a 0 (omega arith), lt-ltb 0 a h) (ap (λ (x : ℕ). round binary64 true x c) less)
@@ -181,7 +195,8 @@ sum-right s t a c h = sum_is s a t 0 c ∙ go s t
 sum-none : (s t : Bool) → Zero (sum binary64 s 0 t 0 1)
 sum-none s t = go s t (sum_is s 0 t 0 1)
   where
-    go : (s t : Bool) → sum binary64 s 0 t 0 1 ≡ cond (beq s t) (round binary64 s 0 1) (round binary64 (s && false) 0 1) → Zero (sum binary64 s 0 t 0 1)
+    go : (s t : Bool) → sum binary64 s 0 t 0 1 ≡ cond (beq s t) (round binary64 s 0 1) (round binary64 (s && false) 0 1) →
+        Zero (sum binary64 s 0 t 0 1)
     go true true e = record { sign = true; is = e ∙ round_none true }
     go false false e = record { sign = false; is = e ∙ round_none false }
     go true false e = record { sign = false; is = e ∙ round_none false }
@@ -224,7 +239,8 @@ sub_own s m e t f =
 sub_at : (x : Float) (t : Bool) → T (fits binary64 x) → Alike (sub binary64 x (zero_of t)) x
 sub_at nan t f = inl (sub_nan (zero_of t))
 sub_at (inf s) t f = inl (sub_inf s t)
-sub_at (fin s zero e) t f = let z = zero-fits s e f in inr (zero_alike _ _ (inl (ap (λ (y : Float). sub binary64 y (zero_of t)) (sym z.is))) (none_left z.sign t), z)
+sub_at (fin s zero e) t f = let z = zero-fits s e f in
+    inr (zero_alike _ _ (inl (ap (λ (y : Float). sub binary64 y (zero_of t)) (sym z.is))) (none_left z.sign t), z)
 sub_at (fin s (suc m) e) t f = inl (sub_own s m e t f)
 
 pub sub_zero : (x y : Float) → T (fits binary64 x) → Zero y → Alike (sub binary64 x y) x
@@ -250,10 +266,14 @@ left_alike s t nan f = inl (left_nan s ∙ sym (left_nan t))
 left_alike s t (inf u) f = inl (left_inf s u ∙ sym (left_inf t u))
 left_alike s t (fin u zero d) f =
     let z = zero-fits u d f in
-    inr (zero_alike _ _ (alike_sym _ _ (sub_zero (zero_of s) (fin u zero d) (fits-zero s) z)) (is_zero s), zero_alike _ _ (alike_sym _ _ (sub_zero (zero_of t) (fin u zero d) (fits-zero t) z)) (is_zero t))
+    inr (
+      zero_alike _ _ (alike_sym _ _ (sub_zero (zero_of s) (fin u zero d) (fits-zero s) z)) (is_zero s),
+      zero_alike _ _ (alike_sym _ _ (sub_zero (zero_of t) (fin u zero d) (fits-zero t) z)) (is_zero t),
+    )
 left_alike s t (fin u (suc n) d) f = inl (left_own s u n d ∙ sym (left_own t u n d))
 
-pub sub_alike : (x x' y y' : Float) → T (fits binary64 x') → T (fits binary64 y) → Alike x x' → Alike y y' → Alike (sub binary64 x y) (sub binary64 x' y')
+pub sub_alike : (x x' y y' : Float) → T (fits binary64 x') → T (fits binary64 y) → Alike x x' → Alike y y' →
+    Alike (sub binary64 x y) (sub binary64 x' y')
 sub_alike x x' y y' fx fy h g =
     alike_trans (sub binary64 x y) (sub binary64 x' y) (sub binary64 x' y')
     (alike_by (λ z. sub binary64 z y) (λ s t. left_alike s t y fy) x x' h)

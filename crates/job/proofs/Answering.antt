@@ -39,12 +39,14 @@ lines-refused (suc r) k x y n = refl
 
 lines_owed : (s : Result) (r : Solved) (b : List Float) → Owed s r b → lines r.number r.column b ≡ lines s.number s.column s.x
 lines_owed s r b o =
-    ⊎_elim (λ (z : r.number ≡ 0). ap (lines r.number r.column) (o.1 z)) (λ (n : r.number ≡ 0 → ⊥). lines-refused r.number r.column b s.x n) (eq-or-ne r.number 0)
+    ⊎_elim (λ (z : r.number ≡ 0). ap (lines r.number r.column) (o.1 z)) (λ (n : r.number ≡ 0 → ⊥). lines-refused r.number r.column b s.x n)
+    (eq-or-ne r.number 0)
     ∙ ap (λ (a : Solved). lines a.number a.column s.x) o.0
 
 -- ---- what the job owes of the file s
 abbrev pub Answers : List ℕ → List ℕ → Wrote → List ℕ → Type 0
-Answers s old r new = (r ≡ answer (output s) old) × (new ≡ leaves (output s) old) × (length (output s) ≤ 3584) × ((m : ℕ) → 40479 ≤ m → output (take m s) ≡ output s)
+Answers s old r new = (r ≡ answer (output s) old) × (new ≡ leaves (output s) old) × (length (output s) ≤ 3584) ×
+    ((m : ℕ) → 40479 ≤ m → output (take m s) ≡ output s)
 
 -- ---- how long an answer is
 after_long : (r k m : ℕ) (next : Result) → length next.x ≤ m → length (after r k next).x ≤ m
@@ -52,12 +54,14 @@ unfolding after
 after_long zero k m next h = h
 after_long (suc r) k m next h = omega arith
 
-falls_long : (f : ℕ → List Float → List Float) → ((j : ℕ) (b : List Float) → length (f j b) ≡ length b) → (n : ℕ) (b : List Float) → length (falls n f b) ≡ length b
+falls_long : (f : ℕ → List Float → List Float) → ((j : ℕ) (b : List Float) → length (f j b) ≡ length b) → (n : ℕ) (b : List Float) →
+    length (falls n f b) ≡ length b
 unfolding falls
 falls_long f h zero b = refl
 falls_long f h (suc n) b = falls_long f h n (f n b) ∙ h n b
 
-turns_long : (f : ℕ → List Float → List Float) → ((j : ℕ) (b : List Float) → length (f j b) ≡ length b) → (n : ℕ) (b : List Float) → length (turns n f b) ≡ length b
+turns_long : (f : ℕ → List Float → List Float) → ((j : ℕ) (b : List Float) → length (f j b) ≡ length b) → (n : ℕ) (b : List Float) →
+    length (turns n f b) ≡ length b
 unfolding turns
 turns_long f h zero b = refl
 turns_long f h (suc n) b = h n (turns n f b) ∙ turns_long f h n b
@@ -76,10 +80,18 @@ output_long s v =
     let r = result_of o in
     let h : length r.x ≤ 256 =
     after_long o.number 0 256 _
-    (after_long _ 0 256 _ (after_long _ _ 256 _ (after_long _ _ 256 _ (after_long _ _ 256 _ (omega (arith, solution_long (lower_matrix (assembled (triplets_of o.job)) (factoring o.job.engine (assembled (triplets_of o.job)))) b, v.right, v.n)))))) in
+    (after_long _ 0 256 _ (after_long _ _ 256 _
+    (after_long _ _ 256 _ (after_long _ _ 256 _
+    (omega (
+      arith,
+      solution_long (lower_matrix (assembled (triplets_of o.job)) (factoring o.job.engine (assembled (triplets_of o.job)))) b,
+      v.right,
+      v.n,
+    )))))) in
     text_long r.number r.column 256 r.x h (omega arith)
 
-answers : (s old : List ℕ) (r : Wrote) (new : List ℕ) (ls : List Line) → text ls ≡ output s → Within (read_file s).job → (r ≡ answer (text ls) old) × (new ≡ leaves (text ls) old) → Answers s old r new
+answers : (s old : List ℕ) (r : Wrote) (new : List ℕ) (ls : List Line) → text ls ≡ output s → Within (read_file s).job → (r ≡ answer (text ls) old)
+    × (new ≡ leaves (text ls) old) → Answers s old r new
 unfolding output
 answers s old r new ls e v c = (
   c.0 ∙ ap (λ (w : List ℕ). answer w old) e,
@@ -93,7 +105,8 @@ front_fits : {A : Type 0} (d g l : List A) (k : ℕ) → l ≡ onto d g → k �
 unfolding onto
 front_fits d g l k e f = (omega (arith, f, ap length e ∙ length-append g (drop (length g) d)), ap (take k) e ∙ take-onto k d g (sym f))
 
-module _ (s : List ℕ) (was : Arrays) (a : Answer) (now : Arrays) (c : (a ≡ read_as (read_file s)) × (now ≡ laid (read_file s).job was) × Within (read_file s).job) where
+module _ (s : List ℕ) (was : Arrays) (a : Answer) (now : Arrays) (c : (a ≡ read_as (read_file s)) × (now ≡ laid (read_file s).job was) ×
+    Within (read_file s).job) where
   abbrev o : Outcome
   o = read_file s
 

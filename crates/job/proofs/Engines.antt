@@ -18,7 +18,8 @@ use Rattle.job_prepare.specs.Prepare.{scratch_room}
 use Rattle.job.specs.Run.{factoring, factor_number}
 
 -- what a call leaves in its outputs, its scratch aside
-pub out_of : {Out : Type 0} (r n : ℕ) (w out : Out) (work : Scratch) {new : Out} {work1 : Scratch} → lent new work1 ≡ leaves r n w (lent out work) → new ≡ outputs r w out
+pub out_of : {Out : Type 0} (r n : ℕ) (w out : Out) (work : Scratch) {new : Out} {work1 : Scratch} → lent new work1 ≡ leaves r n w (lent out work) →
+    new ≡ outputs r w out
 unfolding leaves
 out_of r n w out work e = ap (λ (l : Lent _). l.out) e
 
@@ -31,18 +32,21 @@ module _ (engine : ℕ) (a : Matrix) (given : Analysis) (old : List Float) (r : 
   room = lent old scratch_room
 
   by_either : (b : Bool) → eqb engine 1 ≡ b
-      → Answers (cond b (leftNumber a given room) (upNumber a given room)) (cond b (left a) (up a)) → Answers (factor_number engine a given room) (factoring engine a)
+      → Answers (cond b (leftNumber a given room) (upNumber a given room)) (cond b (left a) (up a)) →
+      Answers (factor_number engine a given room) (factoring engine a)
   unfolding factor_number factoring
   by_either b e c = subst (λ (t : Bool). Answers (cond t (leftNumber a given room) (upNumber a given room)) (cond t (left a) (up a))) (sym e) c
 
   pub by_left : engine ≡ 1
-      → (r ≡ answer (leftNumber a given (lent old scratch_room)) (left a)) × (new ≡ outputs r.number (written (entries (upper (columns a.pattern))) (left a) old) old)
+      → (r ≡ answer (leftNumber a given (lent old scratch_room)) (left a)) ×
+      (new ≡ outputs r.number (written (entries (upper (columns a.pattern))) (left a) old) old)
       → (r ≡ answer (factor_number engine a given (lent old scratch_room)) (factoring engine a))
       × (new ≡ outputs r.number (written (entries (upper (columns a.pattern))) (factoring engine a) old) old)
   by_left e c = by_either _ (eq-eqb engine 1 e) c
 
   pub by_up : (engine ≡ 1 → ⊥)
-      → (r ≡ answer (upNumber a given (lent old scratch_room)) (up a)) × (new ≡ outputs r.number (written (entries (upper (columns a.pattern))) (up a) old) old)
+      → (r ≡ answer (upNumber a given (lent old scratch_room)) (up a)) ×
+      (new ≡ outputs r.number (written (entries (upper (columns a.pattern))) (up a) old) old)
       → (r ≡ answer (factor_number engine a given (lent old scratch_room)) (factoring engine a))
       × (new ≡ outputs r.number (written (entries (upper (columns a.pattern))) (factoring engine a) old) old)
   by_up n c = by_either _ (ne_eqb engine 1 n) c

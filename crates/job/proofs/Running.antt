@@ -103,7 +103,8 @@ module _ (a : Matrix) (g : Analysis) (old : Lent (List Float)) where
       (λ (h : (outcome b).answer.number ≡ 11). absurd (either-passed b (answer-none (numbers b) (outcome b) z h) h))
       (either-ends b)
 
-  either_long : a.pattern.ncols ≤ 65535 → (b : Bool) → (outcome b).answer.number ≡ 0 → length (flatten (outcome b).columns) ≡ length (flatten (lower (columns a.pattern)))
+  either_long : a.pattern.ncols ≤ 65535 → (b : Bool) → (outcome b).answer.number ≡ 0 → length (flatten (outcome b).columns)
+      ≡ length (flatten (lower (columns a.pattern)))
   either_long s true = left_long a s
   either_long s false = up_long a s
 
@@ -226,7 +227,8 @@ module _ (a : Matrix) (g : Analysis) (q : Ready a g) where
           (ne_eqb (factoring engine a).answer.number 11 (λ h. omega (arith, all-passed, h)))
 
       values_are : take (get_or g.lp n 0) lx ≡ flatten (factoring engine a).columns
-      values_are = ap (take (get_or g.lp n 0)) lx_is ∙ take-onto (get_or g.lp n 0) (replicate 2048 none) (flatten (factoring engine a).columns) (values_long ∙ sym run-last)
+      values_are = ap (take (get_or g.lp n 0)) lx_is ∙ take-onto (get_or g.lp n 0) (replicate 2048 none) (flatten (factoring engine a).columns)
+          (values_long ∙ sym run-last)
 
       held : matrix n n (take (n + 1) g.lp) (take (get_or g.lp n 0) g.li) (take (get_or g.lp n 0) lx) ≡ lower_matrix a (factoring engine a)
       unfolding lower_matrix
@@ -267,8 +269,10 @@ module _ (n : ℕ) (p i : List ℕ) (v : List Float) (g : Analysis) (q : Prepare
         (r ≡ answer (factor_number engine a g values_room) (factoring engine a))
         × (lx ≡ outputs r.number (written (entries (upper (columns a.pattern))) (factoring engine a) (replicate 2048 none)) (replicate 2048 none))
 
-    module _ (c : (r ≡ answer (factor_number engine (matrix n n (take (n + 1) p) (take m i) (take m v)) g values_room) (factoring engine (matrix n n (take (n + 1) p) (take m i) (take m v))))
-        × (lx ≡ outputs r.number (written (entries (upper (columns (matrix n n (take (n + 1) p) (take m i) (take m v)).pattern))) (factoring engine (matrix n n (take (n + 1) p) (take m i) (take m v))) (replicate 2048 none)) (replicate 2048 none))) where
+    module _ (c : (r ≡ answer (factor_number engine (matrix n n (take (n + 1) p) (take m i) (take m v)) g values_room)
+        (factoring engine (matrix n n (take (n + 1) p) (take m i) (take m v))))
+        × (lx ≡ outputs r.number (written (entries (upper (columns (matrix n n (take (n + 1) p) (take m i) (take m v)).pattern)))
+        (factoring engine (matrix n n (take (n + 1) p) (take m i) (take m v))) (replicate 2048 none)) (replicate 2048 none))) where
       answers : Answers there
       unfolding held_matrix
       answers = subst Answers (ap (λ (k : ℕ). matrix n n (take (n + 1) p) (take k i) (take k v)) e) c

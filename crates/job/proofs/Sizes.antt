@@ -44,10 +44,12 @@ module _ {A : Type 0} where
   length_last (u ∷ us) c = length-flat u (us ++ (c ∷ [])) ∙ omega (arith, length_last us c, length-flat u us)
 
   -- one value more in column j
-  length-grown : (us : List (List A)) (j : ℕ) (x : A) → j < length us → length (flatten (set us j (get_or us j [] ++ (x ∷ [])))) ≡ length (flatten us) + 1
+  length-grown : (us : List (List A)) (j : ℕ) (x : A) → j < length us → length (flatten (set us j (get_or us j [] ++ (x ∷ []))))
+      ≡ length (flatten us) + 1
   length-grown [] j x h = absurd (omega arith)
   length-grown (u ∷ us) zero x h = length-flat (u ++ (x ∷ [])) us ∙ omega (arith, length-append u (x ∷ []), length-flat u us)
-  length-grown (u ∷ us) (suc j) x h = length-flat u (set us j (get_or us j [] ++ (x ∷ []))) ∙ omega (arith, length-grown us j x (omega arith), length-flat u us)
+  length-grown (u ∷ us) (suc j) x h = length-flat u (set us j (get_or us j [] ++ (x ∷ []))) ∙
+      omega (arith, length-grown us j x (omega arith), length-flat u us)
 
 -- ---- a factoring that ends well
 module _ (step : ℕ → List (List Float) → Step) (d k : ℕ) (done : List (List Float)) where
@@ -71,9 +73,11 @@ ends step k done = refl
 left-column : (a : Matrix) (us ls : List (List ℕ)) (k : ℕ) (done : List (List Float))
     → length (flatten (left_step a us ls k done).columns) ≡ length (flatten done) + length (get_or ls k [])
 unfolding left_step
-left-column a us ls k done = length_last done _ ∙ ap (λ (m : ℕ). length (flatten done) + m) (length-quotients _ (get_or ls k []) (left_x a us ls k done))
+left-column a us ls k done = length_last done _ ∙
+    ap (λ (m : ℕ). length (flatten done) + m) (length-quotients _ (get_or ls k []) (left_x a us ls k done))
 
-left_sizes : (a : Matrix) (us ls : List (List ℕ)) (d k : ℕ) (done : List (List Float)) → length ls ≡ k + d → length (flatten done) ≡ entries (take k ls)
+left_sizes : (a : Matrix) (us ls : List (List ℕ)) (d k : ℕ) (done : List (List Float)) → length ls ≡ k + d → length (flatten done)
+    ≡ entries (take k ls)
     → (factor (left_step a us ls) d k done).answer.number ≡ 0 → length (flatten (factor (left_step a us ls) d k done).columns) ≡ entries ls
 left_sizes a us ls zero k done n e z =
     ap (λ (c : List (List Float)). length (flatten c)) (ends (left_step a us ls) k done) ∙ e ∙ ap entries (take_all k ls (omega arith))
@@ -101,7 +105,8 @@ abbrev Grown : ℕ → List (List ℕ) → List ℕ → Way → Type 0
 Grown k ls us s =
     (length (along (go_at k ls) us s).columns ≡ k) × (length (flatten (along (go_at k ls) us s).columns) ≡ length (flatten s.columns) + below k us)
 
-one-row : (k : ℕ) (ls : List (List ℕ)) (q : ℕ) (us : List ℕ) (s : Way) → length s.columns ≡ k → ((t : Way) → length t.columns ≡ k → Grown k ls us t) → Grown k ls (q ∷ us) s
+one-row : (k : ℕ) (ls : List (List ℕ)) (q : ℕ) (us : List ℕ) (s : Way) → length s.columns ≡ k → ((t : Way) → length t.columns ≡ k → Grown k ls us t)
+    → Grown k ls (q ∷ us) s
 unfolding along below
 one-row k ls q us s n i =
     ⊎_elim
@@ -129,7 +134,8 @@ last_one : (c : List (List Float)) (x : Float) → length (flatten (c ++ ((x ∷
 last_one c x = length_last c (x ∷ [])
 
 up-column : (a : Matrix) (us ls : List (List ℕ)) (k : ℕ) (done : List (List Float)) → length done ≡ k
-    → (length (up_step a us ls k done).columns ≡ k + 1) × (length (flatten (up_step a us ls k done).columns) ≡ length (flatten done) + below k (get_or us k []) + 1)
+    → (length (up_step a us ls k done).columns ≡ k + 1) ×
+    (length (flatten (up_step a us ls k done).columns) ≡ length (flatten done) + below k (get_or us k []) + 1)
 unfolding up_step rows_at start_at
 up-column a us ls k done n =
     let w = rows_more k ls (get_or us k []) (start_at a k done) n in
@@ -154,13 +160,15 @@ below_but_one k (q ∷ us) (one_more f o) h m =
     ⊎_elim
     (λ (e : k ≡ q).
     let i = below_all k us (λ x n. h x (mathlib.Core.List.Memᴰ.tail n)) (λ n. f (rw e at n)) in
-    let b : cond (ltb q k) (suc (below k us)) (below k us) ≡ below k us = ap (λ (t : Bool). cond t (suc (below k us)) (below k us)) (le-ltb q k (omega arith)) in
+    let b : cond (ltb q k) (suc (below k us)) (below k us) ≡ below k us = ap (λ (t : Bool). cond t (suc (below k us)) (below k us))
+    (le-ltb q k (omega arith)) in
     omega (arith, i, b))
     (λ n.
     let i = below_but_one k us o (λ x r. h x (mathlib.Core.List.Memᴰ.tail r)) n in
     let l : q ≤ k = h q (mathlib.Core.List.Memᴰ.head refl) in
     let ne : q < k = ⊎_elim (λ (e : q ≡ k). absurd (f (rw (← e) at n))) (λ (g : q < k). g) (eq-or-lt_of_le l) in
-    let b : cond (ltb q k) (suc (below k us)) (below k us) ≡ suc (below k us) = ap (λ (t : Bool). cond t (suc (below k us)) (below k us)) (lt-ltb q k ne) in
+    let b : cond (ltb q k) (suc (below k us)) (below k us) ≡ suc (below k us) = ap (λ (t : Bool). cond t (suc (below k us)) (below k us))
+    (lt-ltb q k ne) in
     omega (arith, i, b))
     (mathlib.Core.List.Memᴰ.cases_cons m)
 
@@ -174,8 +182,10 @@ pivot_none : (a : Matrix) (us ls : List (List ℕ)) (k : ℕ) (done : List (List
 unfolding up_step rows_at start_at along
 pivot_none a us ls k done l e h =
     let n = a.pattern.ncols in
-    let x = puts_none k (column a.pattern.p k a.pattern.i) (column a.pattern.p k a.v) (replicate n none) (λ z m. h (get_or (column a.pattern.p k a.pattern.i) z 0) (member_at (column a.pattern.p k a.pattern.i) z m)) in
-    ap (λ (u : List ℕ). (along (go_at k ls) u (start_at a k done)).pivot) e ∙ ap (λ (y : List Float). get_or y k nan) x ∙ get_or-replicate n k none nan l
+    let x = puts_none k (column a.pattern.p k a.pattern.i) (column a.pattern.p k a.v) (replicate n none)
+    (λ z m. h (get_or (column a.pattern.p k a.pattern.i) z 0) (member_at (column a.pattern.p k a.pattern.i) z m)) in
+    ap (λ (u : List ℕ). (along (go_at k ls) u (start_at a k done)).pivot) e ∙ ap (λ (y : List Float). get_or y k nan) x ∙
+    get_or-replicate n k none nan l
 
 module _ (a : Matrix) (small : a.pattern.ncols ≤ 65535) where
   abbrev cols : List (List ℕ)
@@ -229,7 +239,8 @@ module _ (a : Matrix) (small : a.pattern.ncols ≤ 65535) where
       let c = up-column a us ls k done l in
       let b = below_but_one k (get_or us k []) (P.once k) (upward k) (holds k done (omega arith) p.0) in
       let m = entries-more us k (omega (arith, P.u_columns, length-columns a.pattern)) in
-      let i = up_sizes d (k + 1) (up_step a us ls k done).columns (omega arith) c.0 (omega (arith, c.1, b, m, e)) (sym (ap (λ (o : Outcome). o.answer.number) p.1) ∙ z) in
+      let i = up_sizes d (k + 1) (up_step a us ls k done).columns (omega arith) c.0 (omega (arith, c.1, b, m, e))
+      (sym (ap (λ (o : Outcome). o.answer.number) p.1) ∙ z) in
       ap (λ (o : Outcome). length (flatten o.columns)) p.1 ∙ i
 
   pub left_long : (left a).answer.number ≡ 0 → length (flatten (left a).columns) ≡ length (flatten ls)

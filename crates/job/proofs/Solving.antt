@@ -80,5 +80,6 @@ module _ (l : Matrix) (b : List Float) {r : Solved} {b1 : List Float}
         e ∙ last t.number t.column (transposed l y) k,
         λ n.
             let m : t.number ≡ 0 = sym (ap (λ (x : Solved). x.number) e) ∙ n in
-            g ∙ left-done (number l y) (transposed l y) y m ∙ sym (ap (λ (x : Result). x.x) (after_go t.number t.column (result 0 0 (transposed l y)) m)),
+            g ∙ left-done (number l y) (transposed l y) y m ∙
+            sym (ap (λ (x : Result). x.x) (after_go t.number t.column (result 0 0 (transposed l y)) m)),
       )

@@ -32,16 +32,19 @@ same-written f old =
     simp (starts-onto old.tree f.tree, starts-onto old.up f.up, starts-onto old.ui f.ui, starts-onto old.lp f.lp, starts-onto old.li f.li)
 
 -- refused
-pub work-refused : (engine : ℕ) (t : Triplets) (b : List Float) (r : ℕ) → r ≡ number t → (r ≡ 0 → ⊥) → Owed (worked engine t b) (record { number = r; column = 0 }) b
+pub work-refused : (engine : ℕ) (t : Triplets) (b : List Float) (r : ℕ) → r ≡ number t → (r ≡ 0 → ⊥) →
+    Owed (worked engine t b) (record { number = r; column = 0 }) b
 unfolding worked
 work-refused engine t b r e n =
     let o = owed_stop r 0 (run engine (assembled t) b) b n in
     (o.0 ∙ ap (λ (y : ℕ). answered (after y 0 (run engine (assembled t) b))) e, λ z. absurd (n z))
 
 -- and not
-module _ (n : ℕ) (rows cols : List ℕ) (vals : List Float) (p i : List ℕ) (v : List Float) (f : Analysis) (p1 i1 : List ℕ) (v1 : List Float) (g : Analysis) (r : ℕ)
+module _ (n : ℕ) (rows cols : List ℕ) (vals : List Float) (p i : List ℕ) (v : List Float) (f : Analysis) (p1 i1 : List ℕ) (v1 : List Float)
+    (g : Analysis) (r : ℕ)
     (c : (r ≡ number (triplets n n rows cols vals))
-    × (◌≡◌ {A = Outputs} (record { matrix = stored p1 i1 v1; analysis = g }) (leaves (triplets n n rows cols vals) (record { matrix = stored p i v; analysis = f })))
+    × (◌≡◌ {A = Outputs} (record { matrix = stored p1 i1 v1; analysis = g })
+    (leaves (triplets n n rows cols vals) (record { matrix = stored p i v; analysis = f })))
     × (r ≡ 0 → Assembled (triplets n n rows cols vals))) (z : r ≡ 0) where
   abbrev t : Triplets
   t = triplets n n rows cols vals
@@ -68,7 +71,8 @@ module _ (n : ℕ) (rows cols : List ℕ) (vals : List Float) (p i : List ℕ) (
         own = ap (λ (m : Matrix). same (analysed (columns m.pattern)) g) matrix-is ∙ own;
       }
 
-  pub work-done : (engine : ℕ) (b : List Float) {s : Solved} {b1 : List Float} → Owed (run engine (held_matrix n p1 i1 v1) b) s b1 → Owed (worked engine t b) s b1
+  pub work-done : (engine : ℕ) (b : List Float) {s : Solved} {b1 : List Float} → Owed (run engine (held_matrix n p1 i1 v1) b) s b1 →
+      Owed (worked engine t b) s b1
   unfolding worked
   work-done engine b {s = s} {b1 = b1} o =
       let o1 : Owed (run engine (assembled t) b) s b1 = subst (λ (m : Matrix). Owed (run engine m b) s b1) matrix-is o in

@@ -46,7 +46,8 @@ row_put row x {a = a} {b = b} {at = at} {v = v} h p q m r =
     let lc = ap length q ∙ length-sets b (at + 2) (bytes 4 row) in
     let s = number_put 8 v (at + 6) (at + 14) (omega arith) (omega (arith, lb, lc)) r in
     let s1 = rw m at s in
-    then (number_put 2 0x5658 at (at + 2) (omega arith) (omega arith) p) (then (number_put 4 row (at + 2) (at + 6) (omega arith) (omega (arith, lb)) q) s1)
+    then (number_put 2 0x5658 at (at + 2) (omega arith) (omega arith) p)
+    (then (number_put 4 row (at + 2) (at + 6) (omega arith) (omega (arith, lb)) q) s1)
 
 pub refusal-put : (number column : ℕ) {a b c d : List ℕ} → 7 ≤ length a
     → b ≡ sets a 0 (bytes 2 0x4F4E) → c ≡ sets b 2 (bytes 1 number) → d ≡ sets c 3 (bytes 4 column) → Put a 0 (bytes_of (NO number column)) 7 d
@@ -54,7 +55,8 @@ unfolding bytes_of
 refusal-put number column {a = a} {b = b} h p q r =
     let lb = ap length p ∙ length-sets a 0 (bytes 2 0x4F4E) in
     let lc = ap length q ∙ length-sets b 2 (bytes 1 number) in
-    then (number_put 2 0x4F4E 0 2 (omega arith) (omega arith) p) (then (number_put 1 number 2 3 (omega arith) (omega (arith, lb)) q) (number_put 4 column 3 7 (omega arith) (omega (arith, lb, lc)) r))
+    then (number_put 2 0x4F4E 0 2 (omega arith) (omega arith) p) (then (number_put 1 number 2 3 (omega arith) (omega (arith, lb)) q)
+    (number_put 4 column 3 7 (omega arith) (omega (arith, lb, lc)) r))
 
 -- ---- the rows so far
 pub record Rows (old : List ℕ) (x : List Float) (out : List ℕ) (at row : ℕ) : Type 0 where

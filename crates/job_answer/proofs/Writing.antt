@@ -28,10 +28,12 @@ unfolding answer
 written-within w old new r e l =
     ⊎_elim
     (λ (h : length w ≤ length old).
-    let f : r.written ≡ length w = ap (λ (x : Wrote). x.written) e ∙ ap (λ (b : Bool). (cond b (wrote 7 0) (wrote 0 (length w))).written) (le-ltb (length old) (length w) h) in
+    let f : r.written ≡ length w = ap (λ (x : Wrote). x.written) e ∙ ap (λ (b : Bool). (cond b (wrote 7 0) (wrote 0 (length w))).written)
+    (le-ltb (length old) (length w) h) in
     omega (arith, f, h, l))
     (λ (h : length old < length w).
-    let f : r.written ≡ 0 = ap (λ (x : Wrote). x.written) e ∙ ap (λ (b : Bool). (cond b (wrote 7 0) (wrote 0 (length w))).written) (lt-ltb (length old) (length w) h) in
+    let f : r.written ≡ 0 = ap (λ (x : Wrote). x.written) e ∙ ap (λ (b : Bool). (cond b (wrote 7 0) (wrote 0 (length w))).written)
+    (lt-ltb (length old) (length w) h) in
     omega (arith, f))
     (le-or-lt (length w) (length old))
 
@@ -41,7 +43,8 @@ room w old new e h p =
     let f = le-ltb (length old) (length w) h in
     let g : e ≡ length w = omega (arith, p.end) in
     let i : new ≡ w ++ drop (length w) old =
-    sym (take-append-drop e new) ∙ ap (λ (l : List ℕ). l ++ drop e new) p.front ∙ ap (λ (l : List ℕ). w ++ l) p.behind ∙ ap (λ (k : ℕ). w ++ drop k old) g in (
+    sym (take-append-drop e new) ∙ ap (λ (l : List ℕ). l ++ drop e new) p.front ∙ ap (λ (l : List ℕ). w ++ l) p.behind ∙
+    ap (λ (k : ℕ). w ++ drop k old) g in (
       ap (wrote 0) g ∙ sym (ap (λ (b : Bool). cond b (wrote 7 0) (wrote 0 (length w))) f),
       i ∙ sym (ap (λ (b : Bool). cond b old (w ++ drop (length w) old)) f),
     )
@@ -79,7 +82,8 @@ module _ (number column : ℕ) (x : List Float) (h : number ≡ 0) (old : List �
   rows_long : length (text (lines number column x)) ≡ 14 * length x
   rows_long = sym (ap length (rows_are number column x h)) ∙ length-rows 0 x
 
-  pub rows_short : length old / 14 < length x → (wrote 7 0 ≡ answer (text (lines number column x)) old) × (old ≡ leaves (text (lines number column x)) old)
+  pub rows_short : length old / 14 < length x → (wrote 7 0 ≡ answer (text (lines number column x)) old) ×
+      (old ≡ leaves (text (lines number column x)) old)
   rows_short l = short (text (lines number column x)) old (omega (arith, l, rows_long))
 
   pub rows-room : {new : List ℕ} {e : ℕ} → length x ≤ length old / 14 → Put old 0 (text (rows 0 x)) e new

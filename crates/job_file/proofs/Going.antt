@@ -108,7 +108,8 @@ module _ {s : List ℕ} {old : Arrays} {h : Head} {at : ℕ} {new : Arrays} (v :
 
   pub going_turn : {r : Record} {x : Head} {next : Arrays} {k : ℕ} → at < length s → r ≡ first (drop at s) → fault (held_by h new) r ≡ 0
       → Kept h new r x next → k ≡ size r
-      → length next.rows ≡ length new.rows → length next.columns ≡ length new.columns → length next.values ≡ length new.values → length next.right ≡ length new.right
+      → length next.rows ≡ length new.rows → length next.columns ≡ length new.columns → length next.values ≡ length new.values → length next.right
+      ≡ length new.right
       → Going s old x (at + k) next
   going_turn {r = r} {x = x} {next = next} {k = k} l e z w f lr lc lv lb =
       let b = v.behind in

@@ -113,16 +113,31 @@ module _ (h : Head) (row : ℕ) where
       rh_row c bits = record { is = λ l p. sym (rh h l p row bits ∙ simp (eq-eqb h.stage 1 a, eq-eqb h.entries h.count b, le-leb h.n row c)) }
 
       pub rh_low : row < h.n → row < h.next → (bits : ℕ) → Judged h (RH row bits) 5
-      rh_low c d bits = record { is = λ l p. sym (rh h l p row bits ∙ simp (eq-eqb h.stage 1 a, eq-eqb h.entries h.count b, lt-leb h.n row c, lt-ltb row h.next d)) }
+      rh_low c d bits = record {
+        is = λ l p. sym (rh h l p row bits ∙ simp (
+          eq-eqb h.stage 1 a,
+          eq-eqb h.entries h.count b,
+          lt-leb h.n row c,
+          lt-ltb row h.next d,
+        ));
+      }
 
       pub rh_sound : row < h.n → h.next ≤ row → (bits : ℕ) → Judged h (RH row bits) 0
-      rh_sound c d bits = record { is = λ l p. sym (rh h l p row bits ∙ simp (eq-eqb h.stage 1 a, eq-eqb h.entries h.count b, lt-leb h.n row c, le-ltb row h.next d)) }
+      rh_sound c d bits = record {
+        is = λ l p. sym (rh h l p row bits ∙ simp (
+          eq-eqb h.stage 1 a,
+          eq-eqb h.entries h.count b,
+          lt-leb h.n row c,
+          le-ltb row h.next d,
+        ));
+      }
 
 module _ (h : Head) (engine : ℕ) where
   pub go_late : (h.stage ≡ 1 → ⊥) → Judged h (GO engine) 12
   go_late a =
       record {
-        is = λ l p. sym (go h l p engine ∙ simp (or_right (not (eqb engine 1 || eqb engine 2)) {b = not (eqb h.stage 1 && eqb h.entries h.count)} (simp (ne_eqb h.stage 1 a))));
+        is = λ l p. sym (go h l p engine ∙ simp (or_right (not (eqb engine 1 || eqb engine 2)) {b = not (eqb h.stage 1 && eqb h.entries h.count)}
+            (simp (ne_eqb h.stage 1 a))));
       }
 
   module _ (a : h.stage ≡ 1) where
@@ -134,7 +149,8 @@ module _ (h : Head) (engine : ℕ) where
               sym
               (go h l p engine
               ∙ simp
-              (or_right (not (eqb engine 1 || eqb engine 2)) {b = not (eqb h.stage 1 && eqb h.entries h.count)} (simp (eq-eqb h.stage 1 a, ne_eqb h.entries h.count b))));
+              (or_right (not (eqb engine 1 || eqb engine 2)) {b = not (eqb h.stage 1 && eqb h.entries h.count)}
+              (simp (eq-eqb h.stage 1 a, ne_eqb h.entries h.count b))));
         }
 
     module _ (b : h.entries ≡ h.count) where
@@ -144,9 +160,17 @@ module _ (h : Head) (engine : ℕ) where
       pub go_sound : 1 ≤ engine → engine ≤ 2 → Judged h (GO engine) 0
       go_sound c d =
           ⊎_elim
-          (λ (f : 1 ≡ engine). record { is = λ l p. sym (go h l p engine ∙ simp (eq-eqb h.stage 1 a, eq-eqb h.entries h.count b, eq-eqb engine 1 (sym f))) })
+          (λ (f : 1 ≡ engine). record {
+            is = λ l p. sym (go h l p engine ∙
+                simp (eq-eqb h.stage 1 a, eq-eqb h.entries h.count b, eq-eqb engine 1 (sym f)));
+          })
           (λ (f : 1 < engine).
           record {
-            is = λ l p. sym (go h l p engine ∙ simp (eq-eqb h.stage 1 a, eq-eqb h.entries h.count b, ne_eqb engine 1 (λ g. omega arith), eq-eqb engine 2 (omega arith)));
+            is = λ l p. sym (go h l p engine ∙ simp (
+              eq-eqb h.stage 1 a,
+              eq-eqb h.entries h.count b,
+              ne_eqb engine 1 (λ g. omega arith),
+              eq-eqb engine 2 (omega arith),
+            ));
           })
           (eq-or-lt_of_le c)

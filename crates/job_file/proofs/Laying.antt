@@ -63,12 +63,19 @@ module _ (h : Head) (l : Arrays) (v : Fits h l) (r : Found) (z : fault (held_by 
               entries = omega (arith, fresh.1);
               fresh = λ f. absurd (omega arith);
             };
-        behind = record { rows = refl; columns = refl; values = refl; right = ap (drop n) g2 ∙ drop_at (replicate n none) (drop n l.right) n (length-replicate n none) };
+        behind = record {
+          rows = refl;
+          columns = refl;
+          values = refl;
+          right = ap (drop n) g2 ∙
+              drop_at (replicate n none) (drop n l.right) n (length-replicate n none);
+        };
         more = omega arith;
         wider = omega (arith, fresh.0);
       }
 
-  pub entry_fits : {row column bits w : ℕ} → r ≡ Entry row column bits → w ≡ h.entries → (w < length l.rows) × (w < length l.columns) × (w < length l.values) × (w < 2048)
+  pub entry_fits : {row column bits w : ℕ} → r ≡ Entry row column bits → w ≡ h.entries → (w < length l.rows) × (w < length l.columns) ×
+      (w < length l.values) × (w < 2048)
   entry_fits {row = row} {column = column} {bits = bits} e f =
       let m = en_means (held_by h l) row column bits (none_of e) in
       let ne = m.1 in
@@ -89,7 +96,14 @@ module _ (h : Head) (l : Arrays) (v : Fits h l) (r : Found) (z : fault (held_by 
       let ev = take_more l.values h.entries b i.2 in
       record {
         is =
-            (λ k. record { place = place h.stage h.next; n = h.n; count = h.count; entries = entries (er k) (ec k) (ev k); right = take h.n l.right; engine = h.engine })
+            (λ k. record {
+              place = place h.stage h.next;
+              n = h.n;
+              count = h.count;
+              entries = entries (er k) (ec k) (ev k);
+              right = take h.n l.right;
+              engine = h.engine;
+            })
             ∙ sym (ap taking e);
         fits =
             record {
@@ -104,7 +118,12 @@ module _ (h : Head) (l : Arrays) (v : Fits h l) (r : Found) (z : fault (held_by 
               entries = omega (arith, v.entries, ne, length-take-le h.entries l.rows held);
               fresh = λ f. absurd (omega (arith, m.0, f));
             };
-        behind = record { rows = drop_more l.rows h.entries row; columns = drop_more l.columns h.entries column; values = drop_more l.values h.entries b; right = refl };
+        behind = record {
+          rows = drop_more l.rows h.entries row;
+          columns = drop_more l.columns h.entries column;
+          values = drop_more l.values h.entries b;
+          right = refl;
+        };
         more = omega arith;
         wider = omega arith;
       }
@@ -120,7 +139,8 @@ module _ (h : Head) (l : Arrays) (v : Fits h l) (r : Found) (z : fault (held_by 
       (omega (arith, m.1, v.n, v.room.right), omega (arith, m.1, v.n))
 
   right_kept : {row bits : ℕ} → r ≡ Right row bits
-      → Kept h l (told r) (head h.stage h.n h.count h.entries (row + 1) h.engine) (arrays l.rows l.columns l.values (set l.right row (of_bits binary64 bits)))
+      → Kept h l (told r) (head h.stage h.n h.count h.entries (row + 1) h.engine)
+      (arrays l.rows l.columns l.values (set l.right row (of_bits binary64 bits)))
   unfolding taken
   right_kept {row = row} {bits = bits} e =
       let m = rh_means (held_by h l) row bits (none_of e) in
@@ -140,7 +160,12 @@ module _ (h : Head) (l : Arrays) (v : Fits h l) (r : Found) (z : fault (held_by 
             ∙ sym (ap taking e);
         fits =
             record {
-              room = record { rows = v.room.rows; columns = v.room.columns; values = v.room.values; right = omega (arith, v.room.right, length-set l.right row b) };
+              room = record {
+                rows = v.room.rows;
+                columns = v.room.columns;
+                values = v.room.values;
+                right = omega (arith, v.room.right, length-set l.right row b);
+              };
               n = v.n;
               count = v.count;
               entries = v.entries;

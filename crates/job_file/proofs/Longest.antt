@@ -109,7 +109,8 @@ module _ (l : List ℕ) (j : Job) (m : ℕ) (h : 18 ≤ m) (g : m < length l) wh
 
   step :
       (fault j (first l) ≡ 0
-      → reads (records (take (m - size (first l)) (drop (size (first l)) l))) (taken j (first l)) ≡ reads (records (drop (size (first l)) l)) (taken j (first l)))
+      → reads (records (take (m - size (first l)) (drop (size (first l)) l))) (taken j (first l)) ≡ reads (records (drop (size (first l)) l))
+      (taken j (first l)))
       → reads (records (take m l)) j ≡ reads (records l) j
   step i =
       let whole = ap (λ (rs : List Record). reads rs j) (one_by_one l (omega arith)) in

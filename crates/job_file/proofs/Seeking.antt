@@ -19,11 +19,13 @@ pub record Seeking (row column e : ℕ) (rows columns : List ℕ) (k : ℕ) : Ty
 pub seeking_start : (row column e : ℕ) (rows columns : List ℕ) → Seeking row column e rows columns 0
 seeking_start row column e rows columns = record { within = omega arith; rest = refl }
 
-module _ {row column e : ℕ} {rows columns : List ℕ} {k : ℕ} (lr : e ≤ length rows) (lc : e ≤ length columns) (v : Seeking row column e rows columns k) (h : k < e) where
+module _ {row column e : ℕ} {rows columns : List ℕ} {k : ℕ} (lr : e ≤ length rows) (lc : e ≤ length columns)
+    (v : Seeking row column e rows columns k) (h : k < e) where
   next_of : (l : List ℕ) → e ≤ length l → drop k (take e l) ≡ get_or l k 0 ∷ drop (k + 1) (take e l)
   next_of l m = left_at (take e l) k 0 (omega (arith, length-take-le e l m)) ∙ ap (λ (x : ℕ). x ∷ drop (k + 1) (take e l)) (get_or-take e l k 0 h)
 
-  opened : given row column (take e rows) (take e columns) ≡ ((eqb (get_or rows k 0) row && eqb (get_or columns k 0) column) || given row column (drop (k + 1) (take e rows)) (drop (k + 1) (take e columns)))
+  opened : given row column (take e rows) (take e columns) ≡ ((eqb (get_or rows k 0) row && eqb (get_or columns k 0) column) ||
+      given row column (drop (k + 1) (take e rows)) (drop (k + 1) (take e columns)))
   unfolding given
   opened = v.rest ∙ rw (next_of rows lr, next_of columns lc)
 
@@ -36,6 +38,7 @@ module _ {row column e : ℕ} {rows columns : List ℕ} {k : ℕ} (lr : e ≤ le
   pub seeking_column : get_or rows k 0 ≡ row → (get_or columns k 0 ≡ column → ⊥) → Seeking row column e rows columns (k + 1)
   seeking_column p q = record { within = omega arith; rest = opened ∙ simp (eq-eqb (get_or rows k 0) row p, ne_eqb (get_or columns k 0) column q) }
 
-pub seeking_done : {row column e : ℕ} {rows columns : List ℕ} {k : ℕ} → e ≤ length rows → Seeking row column e rows columns k → e ≤ k → false ≡ given row column (take e rows) (take e columns)
+pub seeking_done : {row column e : ℕ} {rows columns : List ℕ} {k : ℕ} → e ≤ length rows → Seeking row column e rows columns k → e ≤ k →
+    false ≡ given row column (take e rows) (take e columns)
 unfolding given
 seeking_done {e = e} {rows = rows} {k = k} lr v h = sym (v.rest ∙ rw (left-none (take e rows) k (omega (arith, length-take-le e rows lr))))

@@ -60,18 +60,22 @@ within_file s at {r = r} {k = k} h e f =
     let n : size r ≤ length (drop at s) = rw e (no_more (drop at s) m) in
     (omega (arith, f, n, length-drop at s), omega (arith, f, some r))
 
-pub rest-is : (s : List ℕ) (at : ℕ) {r : Record} {k : ℕ} → at < length s → r ≡ first (drop at s) → k ≡ size r → records (drop at s) ≡ r ∷ records (drop (at + k) s)
+pub rest-is : (s : List ℕ) (at : ℕ) {r : Record} {k : ℕ} → at < length s → r ≡ first (drop at s) → k ≡ size r → records (drop at s)
+    ≡ r ∷ records (drop (at + k) s)
 rest-is s at {r = r} {k = k} h e f =
-    rw (f, e) (one_by_one (drop at s) (omega (arith, length-drop at s)) ∙ ap (λ (l : List ℕ). first (drop at s) ∷ records l) (drop-drop (size (first (drop at s))) at s))
+    rw (f, e) (one_by_one (drop at s) (omega (arith, length-drop at s)) ∙
+    ap (λ (l : List ℕ). first (drop at s) ∷ records l) (drop-drop (size (first (drop at s))) at s))
 
 -- a record without a fault is taken, the first faulty one ends the reading
 pub reads_on : (r : Record) (rs : List Record) (j : Job) → fault j r ≡ 0 → reads (r ∷ rs) j ≡ reads rs (taken j r)
 unfolding reads
-reads_on r rs j e = ap (λ (b : Bool). elim b as (λ _. Outcome) [ true ↦ reads rs (taken j r) | false ↦ record { number = fault j r; job = j } ]) (eq-eqb (fault j r) 0 e)
+reads_on r rs j e = ap (λ (b : Bool). elim b as (λ _. Outcome) [ true ↦ reads rs (taken j r) | false ↦ record { number = fault j r; job = j } ])
+    (eq-eqb (fault j r) 0 e)
 
 pub reads_stop : (r : Record) (rs : List Record) (j : Job) → (fault j r ≡ 0 → ⊥) → reads (r ∷ rs) j ≡ record { number = fault j r; job = j }
 unfolding reads
-reads_stop r rs j e = ap (λ (b : Bool). elim b as (λ _. Outcome) [ true ↦ reads rs (taken j r) | false ↦ record { number = fault j r; job = j } ]) (ne_eqb (fault j r) 0 e)
+reads_stop r rs j e = ap (λ (b : Bool). elim b as (λ _. Outcome) [ true ↦ reads rs (taken j r) | false ↦ record { number = fault j r; job = j } ])
+    (ne_eqb (fault j r) 0 e)
 
 pub reads_end : (j : Job) → reads (records []) j ≡ record { number = at_end j; job = j }
 unfolding reads records records_past

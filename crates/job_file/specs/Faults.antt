@@ -89,7 +89,8 @@ repeated e Wrong = false
 
 -- the number of a record where it stands, 0 for none: first 12, which is also given where it is not this record's turn
 unfoldable pub fault : Job → Record → ℕ
-fault j r = lowest ((12, malformed r || not (turn j r)) ∷ (1, oversized r) ∷ (4, outside j.n r) ∷ (5, fallen j.place r) ∷ (9, repeated j.entries r) ∷ [])
+fault j r = lowest ((12, malformed r || not (turn j r)) ∷ (1, oversized r) ∷ (4, outside j.n r) ∷ (5, fallen j.place r) ∷ (9, repeated j.entries r)
+    ∷ [])
 
 -- the number where the file ends: 12 before GO
 unfoldable pub at_end : Job → ℕ

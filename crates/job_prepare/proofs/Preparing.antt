@@ -19,7 +19,8 @@ use Rattle.cs_tree.specs.Pattern.{Analysis, analysed}
 use Rattle.cs_conversion.specs.Assembly.{Triplets, triplets, judged_triplets, needed_triplets, twice, assembled, Assembled, number as assemblyNumber}
 use Rattle.cs_pattern.specs.Analyse.{number as analysisNumber, written as writtenAnalysis, short as shortAnalysis}
 use Rattle.cs_pattern.specs.Columns.{columns}
-use Rattle.job_prepare.specs.Prepare.{scratch_room, matrix_room, analysis_room, assembly, analysis_of, pattern_of, number, Outputs, leaves, held_pattern}
+use Rattle.job_prepare.specs.Prepare.{scratch_room, matrix_room, analysis_room, assembly, analysis_of, pattern_of, number, Outputs, leaves}
+use Rattle.job_prepare.specs.Prepare.{held_pattern}
 
 -- ---- only the lengths of what is lent matter to the numbers
 module _ (a b : Stored) (ep : length a.p ≡ length b.p) (ei : length a.i ≡ length b.i) (ev : length a.v ≡ length b.v) where
@@ -29,7 +30,8 @@ module _ (a b : Stored) (ep : length a.p ≡ length b.p) (ei : length a.i ≡ le
 
   assembly-same : (t : Triplets) (w : Scratch) → assemblyNumber t (lent a w) ≡ assemblyNumber t (lent b w)
   unfolding assemblyNumber
-  assembly-same t w = ap (λ (c : Bool). lowest (judged_triplets t ++ (6, narrow (needed_triplets t) w) ∷ (7, c) ∷ (9, twice t.i t.j) ∷ [])) (short-same (assembled t))
+  assembly-same t w = ap (λ (c : Bool). lowest (judged_triplets t ++ (6, narrow (needed_triplets t) w) ∷ (7, c) ∷ (9, twice t.i t.j) ∷ []))
+      (short-same (assembled t))
 
 module _ (a b : Analysis) (et : length a.tree ≡ length b.tree) (eu : length a.up ≡ length b.up) (ei : length a.ui ≡ length b.ui)
     (el : length a.lp ≡ length b.lp) (ej : length a.li ≡ length b.li) where
@@ -39,10 +41,12 @@ module _ (a b : Analysis) (et : length a.tree ≡ length b.tree) (eu : length a.
 
   analysis-same : (q : Pattern) (w : Scratch) → analysisNumber q (lent a w) ≡ analysisNumber q (lent b w)
   unfolding analysisNumber
-  analysis-same q w = ap (λ (c : Bool). lowest (judged_square q ++ ((6, narrow (needed q) w) ∷ (7, c) ∷ []))) (short-same-analysis (analysed (columns q)))
+  analysis-same q w = ap (λ (c : Bool). lowest (judged_square q ++ ((6, narrow (needed q) w) ∷ (7, c) ∷ [])))
+      (short-same-analysis (analysed (columns q)))
 
 -- ---- each call in the program's arrays
-pub assembled_there : (t : Triplets) (p i : List ℕ) (v : List Float) {new : Stored} {w : Scratch} {r : ℕ} → length p ≡ 257 → length i ≡ 2048 → length v ≡ 2048
+pub assembled_there : (t : Triplets) (p i : List ℕ) (v : List Float) {new : Stored} {w : Scratch} {r : ℕ} → length p ≡ 257 → length i ≡ 2048 →
+    length v ≡ 2048
     → (r ≡ assemblyNumber t (lent (stored p i v) scratch_room))
     × (lent new w ≡ left r (needed_triplets t) (written (assembled t) (stored p i v)) (lent (stored p i v) scratch_room))
     × (r ≡ 0 → Assembled t)
@@ -50,7 +54,8 @@ pub assembled_there : (t : Triplets) (p i : List ℕ) (v : List Float) {new : St
 unfolding assembly left
 assembled_there t p i v ep ei ev e = (
   e.0
-      ∙ assembly-same (stored p i v) matrix_room.out (ep ∙ sym (length-replicate {A = ℕ} 257 0)) (ei ∙ sym (length-replicate {A = ℕ} 2048 0)) (ev ∙ sym (length-replicate 2048 none)) t scratch_room,
+      ∙ assembly-same (stored p i v) matrix_room.out (ep ∙ sym (length-replicate {A = ℕ} 257 0)) (ei ∙ sym (length-replicate {A = ℕ} 2048 0)) (ev ∙
+      sym (length-replicate 2048 none)) t scratch_room,
   ap (λ (l : Lent Stored). l.out) e.1,
   e.2,
 )
@@ -64,14 +69,16 @@ pub analysed_there : (n : ℕ) (p i : List ℕ) (m : ℕ) (f : Analysis) {new : 
     → length f.tree ≡ 256 → length f.up ≡ 257 → length f.ui ≡ 2048 → length f.lp ≡ 257 → length f.li ≡ 2048
     → r ≡ analysisNumber (pattern n n (take (n + 1) p) (take m i)) (lent f scratch_room)
     → lent new w
-    ≡ left r (needed (pattern n n (take (n + 1) p) (take m i))) (writtenAnalysis (analysed (columns (pattern n n (take (n + 1) p) (take m i)))) f) (lent f scratch_room)
+    ≡ left r (needed (pattern n n (take (n + 1) p) (take m i))) (writtenAnalysis (analysed (columns (pattern n n (take (n + 1) p) (take m i)))) f)
+    (lent f scratch_room)
     → (r ≡ analysis_of (held_pattern n p i)) × (new ≡ outputs r (writtenAnalysis (analysed (columns (held_pattern n p i))) f) f)
 unfolding analysis_of left
 analysed_there n p i m f {new = new} {r = r} em et eu ei el ej e g =
     let q = handed n p i (n + 1) m refl em in (
       e
           ∙ ap (λ (x : Pattern). analysisNumber x (lent f scratch_room)) q
-          ∙ analysis-same f analysis_room.out (et ∙ sym (length-replicate {A = ℕ} 256 0)) (eu ∙ sym (length-replicate {A = ℕ} 257 0)) (ei ∙ sym (length-replicate {A = ℕ} 2048 0)) (el ∙ sym (length-replicate {A = ℕ} 257 0))
+          ∙ analysis-same f analysis_room.out (et ∙ sym (length-replicate {A = ℕ} 256 0)) (eu ∙ sym (length-replicate {A = ℕ} 257 0)) (ei ∙
+          sym (length-replicate {A = ℕ} 2048 0)) (el ∙ sym (length-replicate {A = ℕ} 257 0))
           (ej ∙ sym (length-replicate {A = ℕ} 2048 0)) (held_pattern n p i) scratch_room,
       ap (λ (l : Lent Analysis). l.out) g ∙ ap (λ (x : Pattern). outputs r (writtenAnalysis (analysed (columns x)) f) f) q,
     )
@@ -171,8 +178,10 @@ module _ (n : ℕ) (rows cols : List ℕ) (vals : List Float) (p i : List ℕ) (
       let h = written-pattern n rows cols vals p i v p1 i1 v1 is-written (c.2 z) in
       let eq : q ≡ analysis_of m.pattern = d.0 ∙ ap analysis_of h in
       let eg : g ≡ outputs (analysis_of m.pattern) (writtenAnalysis (analysed (columns m.pattern)) f) f =
-      d.1 ∙ ap (λ (x : Pattern). outputs q (writtenAnalysis (analysed (columns x)) f) f) h ∙ ap (λ (y : ℕ). outputs y (writtenAnalysis (analysed (columns m.pattern)) f) f) eq in
-      let ew : stored p1 i1 v1 ≡ outputs (assembly t) (written m (stored p i v)) (stored p i v) = c.1 ∙ ap (λ (y : ℕ). outputs y (written m (stored p i v)) (stored p i v)) c.0 in
+      d.1 ∙ ap (λ (x : Pattern). outputs q (writtenAnalysis (analysed (columns x)) f) f) h ∙
+      ap (λ (y : ℕ). outputs y (writtenAnalysis (analysed (columns m.pattern)) f) f) eq in
+      let ew : stored p1 i1 v1 ≡ outputs (assembly t) (written m (stored p i v)) (stored p i v) = c.1 ∙
+      ap (λ (y : ℕ). outputs y (written m (stored p i v)) (stored p i v)) c.0 in
       let b : eqb (assembly t) 0 ≡ true = eq-eqb (assembly t) 0 (sym c.0 ∙ z) in (
         eq ∙ sym (ap (λ (x : Bool). cond x (analysis_of m.pattern) (assembly t)) b),
         (λ k. record { matrix = ew k; analysis = eg k })
@@ -186,7 +195,8 @@ module _ (n : ℕ) (rows cols : List ℕ) (vals : List Float) (p i : List ℕ) (
 -- assembly refused
 pub prepared_refused : (t : Triplets) (old new : Stored) (f : Analysis) (r : ℕ) → (r ≡ 0 → ⊥)
     → (r ≡ assembly t) × (new ≡ outputs r (written (assembled t) old) old) × (r ≡ 0 → Assembled t)
-    → (r ≡ number t) × (◌≡◌ {A = Outputs} (record { matrix = new; analysis = f }) (leaves t (record { matrix = old; analysis = f }))) × (r ≡ 0 → Assembled t)
+    → (r ≡ number t) × (◌≡◌ {A = Outputs} (record { matrix = new; analysis = f }) (leaves t (record { matrix = old; analysis = f }))) ×
+    (r ≡ 0 → Assembled t)
 unfolding number leaves
 prepared_refused t old new f r n c =
     let b : eqb (assembly t) 0 ≡ false = ne_eqb (assembly t) 0 (λ h. n (c.0 ∙ h)) in
@@ -220,5 +230,6 @@ module _ (t : Triplets) (old new : Outputs) (r : ℕ) (c : (r ≡ number t) × (
   unfolding leaves pattern_of
   done-analysis =
       ap (λ (x : Outputs). x.analysis) c.1
-      ∙ ap (λ (x : Bool). cond x (outputs (analysis_of (assembled t).pattern) (writtenAnalysis (pattern_of t) old.analysis) old.analysis) old.analysis) (eq-eqb (assembly t) 0 both.0)
+      ∙ ap (λ (x : Bool). cond x (outputs (analysis_of (assembled t).pattern) (writtenAnalysis (pattern_of t) old.analysis) old.analysis)
+      old.analysis) (eq-eqb (assembly t) 0 both.0)
       ∙ left-done (analysis_of (assembled t).pattern) (writtenAnalysis (pattern_of t) old.analysis) old.analysis both.1

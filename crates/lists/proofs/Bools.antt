@@ -1,5 +1,6 @@
 -- Tests and numbers by cases. Assumes nothing.
-use Rattle.std.proofs.Common.{◌≡◌, ℕ, zero, suc, ◌<◌, ◌≤◌, Bool, true, false, cond, not, ◌&&◌, ◌||◌, ◌⊎◌, sym, refl, ◌∙◌, inl, inr, ⊎_elim, true≢false, suc-le-suc, zero-le, arith}
+use Rattle.std.proofs.Common.{◌≡◌, ℕ, zero, suc, ◌<◌, ◌≤◌, Bool, true, false, cond, not, ◌&&◌, ◌||◌, ◌⊎◌, sym, refl, ◌∙◌, inl, inr, ⊎_elim}
+use Rattle.std.proofs.Common.{true≢false, suc-le-suc, zero-le, arith}
 use native.Mathlib.Decide.{ℕ_discrete}
 
 pub le-or-lt : (a b : ℕ) → (a ≤ b) ⊎ (b < a)

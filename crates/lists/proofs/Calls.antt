@@ -1,5 +1,6 @@
 -- What a call answers and leaves, on the way through its judgements. Assumes nothing.
-use Rattle.std.proofs.Common.{◌≡◌, ℕ, zero, suc, ◌<◌, ◌≤◌, min, Bool, true, false, cond, ◌||◌, ltb, List, [], ◌∷◌, ◌++◌, length, sym, refl, ◌∙◌, arith, ltb-false, le-ltb, lt-ltb, eq-eqb, ne_eqb}
+use Rattle.std.proofs.Common.{◌≡◌, ℕ, zero, suc, ◌<◌, ◌≤◌, min, Bool, true, false, cond, ◌||◌, ltb, List, [], ◌∷◌, ◌++◌, length, sym, refl, ◌∙◌}
+use Rattle.std.proofs.Common.{arith, ltb-false, le-ltb, lt-ltb, eq-eqb, ne_eqb}
 use lib.Ieee.{Float}
 use Rattle.lists.specs.Calls.{lowest, both, lower, none, cleared, Scratch, scratch, narrow, wiped, Lent, outputs, worked, leaves}
 use Rattle.lists.proofs.Bools.{or-false}
@@ -63,7 +64,8 @@ lowest-both k (c ∷ cs) (d ∷ ds) h f g = go c.1 d.1 (lowest-both (suc k) cs d
     two zero s = sym (lower-right 0 k refl)
     two (suc r) s = sym (lower-swap k (suc r) h (λ e. omega arith) (omega (arith, s (λ e. omega arith))))
 
-    go : (a b : Bool) → lower (lowest cs) (lowest ds) ≡ lowest (both cs ds) → lower (cond a c.0 (lowest cs)) (cond b d.0 (lowest ds)) ≡ cond (a || b) c.0 (lowest (both cs ds))
+    go : (a b : Bool) → lower (lowest cs) (lowest ds) ≡ lowest (both cs ds) → lower (cond a c.0 (lowest cs)) (cond b d.0 (lowest ds))
+        ≡ cond (a || b) c.0 (lowest (both cs ds))
     go true true e = rw (f.0, g.0) (sym (lower_least k k k (λ e. omega arith) (λ e. omega arith) (omega arith)))
     go true false e = rw f.0 (one (lowest ds) (from_least (suc k) ds g.1))
     go false true e = rw (f.0, g.0) (two (lowest cs) (from_least (suc k) cs f.1))
@@ -119,20 +121,25 @@ pub kept : {Out : Type 0} (r n : ℕ) (w : Out) (old : Lent Out) → 0 < r → r
 unfolding leaves outputs worked
 kept r n w old h g = rw (ne_eqb r 0 (λ e. omega arith), ne_eqb r 11 (λ e. omega arith), lt-ltb 0 r h, lt-ltb r 7 g)
 
-pub early : {Out : Type 0} (cs : List (ℕ × Bool)) → Early cs → {r : ℕ} (n : ℕ) (w : Out) (old : Lent Out) → r ≡ lowest cs → (r ≡ 0 → ⊥) → old ≡ leaves r n w old
+pub early : {Out : Type 0} (cs : List (ℕ × Bool)) → Early cs → {r : ℕ} (n : ℕ) (w : Out) (old : Lent Out) → r ≡ lowest cs → (r ≡ 0 → ⊥) →
+    old ≡ leaves r n w old
 early cs g {r = zero} n w old e h = absurd (h refl)
 early cs g {r = suc r} n w old e h = kept (suc r) n w old (omega arith) (omega (arith, below_7 cs g))
 
 -- by 7 to 10 the outputs are as they were, by 0 and 11 what is written; the scratch is cleared
-pub late : {Out : Type 0} (r n : ℕ) (w : Out) (old : Lent Out) {s : Scratch} → 7 ≤ r → r < 11 → s ≡ wiped n old.work → ◌≡◌ {A = Lent Out} (record { out = old.out; work = s }) (leaves r n w old)
+pub late : {Out : Type 0} (r n : ℕ) (w : Out) (old : Lent Out) {s : Scratch} → 7 ≤ r → r < 11 → s ≡ wiped n old.work →
+    ◌≡◌ {A = Lent Out} (record { out = old.out; work = s }) (leaves r n w old)
 unfolding leaves outputs worked
-late r n w old h g e = rw (ne_eqb r 0 (λ e. omega arith), ne_eqb r 11 (λ e. omega arith), lt-ltb 0 r (omega arith), le-ltb r 7 h) (λ k. record { out = old.out; work = e k })
+late r n w old h g e = rw (ne_eqb r 0 (λ e. omega arith), ne_eqb r 11 (λ e. omega arith), lt-ltb 0 r (omega arith), le-ltb r 7 h)
+    (λ k. record { out = old.out; work = e k })
 
-pub done : {Out : Type 0} (n : ℕ) (w : Out) (old : Lent Out) {o : Out} {s : Scratch} → o ≡ w → s ≡ wiped n old.work → ◌≡◌ {A = Lent Out} (record { out = o; work = s }) (leaves 0 n w old)
+pub done : {Out : Type 0} (n : ℕ) (w : Out) (old : Lent Out) {o : Out} {s : Scratch} → o ≡ w → s ≡ wiped n old.work →
+    ◌≡◌ {A = Lent Out} (record { out = o; work = s }) (leaves 0 n w old)
 unfolding leaves outputs worked
 done n w old f e = λ k. record { out = f k; work = e k }
 
-pub blanked : {Out : Type 0} (n : ℕ) (w : Out) (old : Lent Out) {o : Out} {s : Scratch} → o ≡ w → s ≡ wiped n old.work → ◌≡◌ {A = Lent Out} (record { out = o; work = s }) (leaves 11 n w old)
+pub blanked : {Out : Type 0} (n : ℕ) (w : Out) (old : Lent Out) {o : Out} {s : Scratch} → o ≡ w → s ≡ wiped n old.work →
+    ◌≡◌ {A = Lent Out} (record { out = o; work = s }) (leaves 11 n w old)
 unfolding leaves outputs worked
 blanked n w old f e = λ k. record { out = f k; work = e k }
 
@@ -169,7 +176,8 @@ unfolding narrow
 narrow_x n s f g h = rw (le-ltb (length s.w1) n f, le-ltb (length s.w2) n g, le-ltb (length s.w3) n h)
 
 -- each slice cleared
-pub wiped_each : (n : ℕ) (s : Scratch) {w1 w2 w3 : List ℕ} {x : List Float} → w1 ≡ cleared 0 n s.w1 → w2 ≡ cleared 0 n s.w2 → w3 ≡ cleared 0 n s.w3 → x ≡ cleared none n s.x → scratch w1 w2 w3 x ≡ wiped n s
+pub wiped_each : (n : ℕ) (s : Scratch) {w1 w2 w3 : List ℕ} {x : List Float} → w1 ≡ cleared 0 n s.w1 → w2 ≡ cleared 0 n s.w2 → w3 ≡ cleared 0 n s.w3
+    → x ≡ cleared none n s.x → scratch w1 w2 w3 x ≡ wiped n s
 unfolding wiped
 wiped_each n s a b c d = λ k. record { w1 = a k; w2 = b k; w3 = c k; x = d k }
 

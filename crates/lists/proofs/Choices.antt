@@ -1,5 +1,6 @@
 -- The numbers at which a test holds: walks that look for the first of them, or for the last. Assumes nothing.
-use Rattle.std.proofs.Common.{◌≡◌, ℕ, zero, suc, ◌+◌, ◌-◌, ◌<◌, ◌≤◌, Bool, true, false, cond, List, [], ◌∷◌, ◌++◌, sym, refl, ap, ◌∙◌, ⊎_elim, append-nil, eq-or-lt_of_le, add-one, arith}
+use Rattle.std.proofs.Common.{◌≡◌, ℕ, zero, suc, ◌+◌, ◌-◌, ◌<◌, ◌≤◌, Bool, true, false, cond, List, [], ◌∷◌, ◌++◌, sym, refl, ap, ◌∙◌, ⊎_elim}
+use Rattle.std.proofs.Common.{append-nil, eq-or-lt_of_le, add-one, arith}
 use Rattle.lists.specs.Choices.{chosen, some, first_or, last_or, Found}
 
 -- ---- one number more
@@ -26,7 +27,8 @@ leads zero f j h e t = absurd (omega arith)
 leads (suc n) f j h e t =
     ⊎_elim
     (λ (q : j ≡ n). let e' = rw q at e in let t' = rw q at t in record { rest = []; is = rw (e', t', q) })
-    (λ (m : j < n). let r = leads n f j m e t in let more = cond (f n) (n ∷ []) [] in record { rest = r.rest ++ more; is = ap (λ (l : List ℕ). l ++ more) r.is })
+    (λ (m : j < n). let r = leads n f j m e t in let more = cond (f n) (n ∷ []) [] in
+    record { rest = r.rest ++ more; is = ap (λ (l : List ℕ). l ++ more) r.is })
     (eq-or-lt_of_le (omega arith))
 
 last-is : (l : List ℕ) (x d : ℕ) → last_or d (l ++ (x ∷ [])) ≡ x
@@ -77,10 +79,14 @@ before {k = k} v h = let e : k - 1 + 1 ≡ k = omega arith in rw e v.rest
 pub downward_turn : {n : ℕ} {f : ℕ → Bool} {k : ℕ} → Downward n f k → 0 < k → f (k - 1) ≡ false → Downward n f (k - 1)
 downward_turn {n} {f} {k} v h e = record { within = omega (arith, v.within); rest = before v h ∙ chosen-same (k - 1) f e }
 
-pub downward_found : {n : ℕ} {f : ℕ → Bool} {k : ℕ} → Downward n f k → 0 < k → f (k - 1) ≡ true → Found n (chosen n f) (last_or 0 (chosen n f)) (k - 1)
+pub downward_found : {n : ℕ} {f : ℕ → Bool} {k : ℕ} → Downward n f k → 0 < k → f (k - 1) ≡ true →
+    Found n (chosen n f) (last_or 0 (chosen n f)) (k - 1)
 downward_found {n} {f} {k} v h e =
     let r = before v h ∙ chosen_more (k - 1) f e in
-    record { found = λ m. rw r (some-last (chosen (k - 1) f) (k - 1), sym (last-is (chosen (k - 1) f) (k - 1) 0)); none = λ m. absurd (omega (arith, v.within)) }
+    record {
+      found = λ m. rw r (some-last (chosen (k - 1) f) (k - 1), sym (last-is (chosen (k - 1) f) (k - 1) 0));
+      none = λ m. absurd (omega (arith, v.within));
+    }
 
 pub downward_end : {n : ℕ} {f : ℕ → Bool} {k : ℕ} → Downward n f k → k ≡ 0 → Found n (chosen n f) (last_or 0 (chosen n f)) n
 downward_end {n} {f} {k} v h = let r = v.rest in record { found = λ m. absurd (omega arith); none = λ m. rw ((rw h at r) ∙ chosen_none f) }

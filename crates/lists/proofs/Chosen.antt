@@ -1,5 +1,6 @@
 -- The numbers at which a test holds, as a list: its members, its length, what is kept of it, a fold along it. Assumes nothing.
-use Rattle.std.proofs.Common.{◌≡◌, ℕ, zero, suc, ◌<◌, ◌≤◌, Bool, true, false, cond, ◌&&◌, ◌||◌, List, [], ◌∷◌, ◌++◌, map, length, sym, refl, ap, ◌∙◌, ⊎_elim, true≢false, append-nil, eq-or-lt_of_le, arith, length-append}
+use Rattle.std.proofs.Common.{◌≡◌, ℕ, zero, suc, ◌<◌, ◌≤◌, Bool, true, false, cond, ◌&&◌, ◌||◌, List, [], ◌∷◌, ◌++◌, map, length, sym, refl, ap}
+use Rattle.std.proofs.Common.{◌∙◌, ⊎_elim, true≢false, append-nil, eq-or-lt_of_le, arith, length-append}
 use mathlib.Core.List.{Memᴰ}
 use Rattle.lists.specs.Choices.{chosen, some_of, keep}
 use Rattle.lists.specs.Folds.{along}
@@ -32,7 +33,8 @@ module _ {A : Type 0} (f : A → Bool) where
   keep_append [] m = refl
   keep_append (x ∷ l) m = go (f x) (keep_append l m)
     where
-      go : (b : Bool) → keep f (l ++ m) ≡ keep f l ++ keep f m → cond b (x ∷ keep f (l ++ m)) (keep f (l ++ m)) ≡ cond b (x ∷ keep f l) (keep f l) ++ keep f m
+      go : (b : Bool) → keep f (l ++ m) ≡ keep f l ++ keep f m → cond b (x ∷ keep f (l ++ m)) (keep f (l ++ m))
+          ≡ cond b (x ∷ keep f l) (keep f l) ++ keep f m
       go true e = ap (λ (t : List A). x ∷ t) e
       go false e = e
 
@@ -40,7 +42,8 @@ module _ {A : Type 0} (f : A → Bool) where
   pub some_of_member : {x : A} (l : List A) → Memᴰ x l → f x ≡ true → some_of f l ≡ true
   unfolding some_of
   some_of_member [] m h = absurd (mathlib.Core.List.Memᴰ.not-nil m)
-  some_of_member {x} (y ∷ l) m h = ⊎_elim (λ (e : x ≡ y). rw (sym (ap f e) ∙ h)) (λ n. go (f y) (some_of_member l n h)) (mathlib.Core.List.Memᴰ.cases_cons m)
+  some_of_member {x} (y ∷ l) m h = ⊎_elim (λ (e : x ≡ y). rw (sym (ap f e) ∙ h)) (λ n. go (f y) (some_of_member l n h))
+      (mathlib.Core.List.Memᴰ.cases_cons m)
     where
       go : (b : Bool) → some_of f l ≡ true → (b || some_of f l) ≡ true
       go true e = refl
@@ -69,7 +72,8 @@ chosen_alike (suc n) f g h = rw (chosen_alike n f g (λ k l. h k (omega arith)),
 pub keep-chosen : (n : ℕ) (f g : ℕ → Bool) → keep f (chosen n g) ≡ chosen n (λ k. g k && f k)
 unfolding chosen keep
 keep-chosen zero f g = refl
-keep-chosen (suc n) f g = keep_append f (chosen n g) (cond (g n) (n ∷ []) []) ∙ ap (λ (t : List ℕ). t ++ keep f (cond (g n) (n ∷ []) [])) (keep-chosen n f g) ∙ ap (λ (t : List ℕ). chosen n (λ k. g k && f k) ++ t) (go (g n))
+keep-chosen (suc n) f g = keep_append f (chosen n g) (cond (g n) (n ∷ []) []) ∙ ap (λ (t : List ℕ). t ++ keep f (cond (g n) (n ∷ []) []))
+    (keep-chosen n f g) ∙ ap (λ (t : List ℕ). chosen n (λ k. g k && f k) ++ t) (go (g n))
   where
     go : (b : Bool) → keep f (cond b (n ∷ []) []) ≡ cond (b && f n) (n ∷ []) []
     go true = refl
@@ -128,7 +132,8 @@ module _ (f : ℕ → Bool) where
   -- it rises
   put_behind : (l : List ℕ) (b n : ℕ) → Rising b l → ((k : ℕ) → Memᴰ k l → k < n) → b ≤ n → Rising b (l ++ (n ∷ []))
   put_behind [] b n flat h g = step {b = b} {x = n} g flat
-  put_behind (x ∷ l) b n (step q r) h g = step {b = b} {x = x} q (put_behind l (suc x) n r (λ k m. h k (mathlib.Core.List.Memᴰ.tail m)) (h x (mathlib.Core.List.Memᴰ.head refl)))
+  put_behind (x ∷ l) b n (step q r) h g = step {b = b} {x = x} q (put_behind l (suc x) n r (λ k m. h k (mathlib.Core.List.Memᴰ.tail m))
+      (h x (mathlib.Core.List.Memᴰ.head refl)))
 
   pub chosen_rising : (n : ℕ) → Rising 0 (chosen n f)
   unfolding chosen

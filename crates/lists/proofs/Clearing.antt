@@ -1,5 +1,6 @@
 -- `cleared`: its length, its places, and the loop that clears, over the element type and its zero. Assumes nothing.
-use Rattle.std.proofs.Common.{◌≡◌, ℕ, zero, suc, ◌+◌, ◌<◌, ◌≤◌, ◌⊎◌, List, [], ◌∷◌, length, get_or, set, replicate, refl, ap, ◌∙◌, ⊎_elim, add-one, arith, length-set}
+use Rattle.std.proofs.Common.{◌≡◌, ℕ, zero, suc, ◌+◌, ◌<◌, ◌≤◌, ◌⊎◌, List, [], ◌∷◌, length, get_or, set, replicate, refl, ap, ◌∙◌, ⊎_elim, add-one}
+use Rattle.std.proofs.Common.{arith, length-set}
 use Rattle.lists.specs.Calls.{cleared}
 
 module _ {A : Type 0} (z : A) where
@@ -89,4 +90,5 @@ module _ {A : Type 0} (z : A) where
 
   pub clearing_done : {n : ℕ} {out₀ out : List A} {k : ℕ} → Clearing n out₀ out k → (n ≤ k) ⊎ (length out ≤ k) → out ≡ cleared z n out₀
   clearing_done {n = n} {out₀ = out₀} {out = out} {k = k} v h =
-      ⊎_elim (λ (g : n ≤ k). let e : k ≡ n = omega (arith, v.within) in rw (← e) v.is) (λ (g : length out ≤ k). v.is ∙ past n k out₀ (omega (arith, v.long)) v.within) h
+      ⊎_elim (λ (g : n ≤ k). let e : k ≡ n = omega (arith, v.within) in rw (← e) v.is) (λ (g : length out ≤ k). v.is ∙
+      past n k out₀ (omega (arith, v.long)) v.within) h

@@ -1,5 +1,6 @@
 -- The folds of specs/Folds.antt, one turn more, and the invariants of the loops that compute them. Assumes nothing.
-use Rattle.std.proofs.Common.{◌≡◌, ℕ, zero, suc, ◌+◌, ◌-◌, ◌<◌, ◌≤◌, Bool, true, false, cond, not, ◌&&◌, eqb, List, [], ◌∷◌, length, get_or, drop, sym, refl, ap, ◌∙◌, ⊎_elim, add-zero, add-suc, eq-or-lt_of_le, add-one, arith, ne_eqb}
+use Rattle.std.proofs.Common.{◌≡◌, ℕ, zero, suc, ◌+◌, ◌-◌, ◌<◌, ◌≤◌, Bool, true, false, cond, not, ◌&&◌, eqb, List, [], ◌∷◌, length, get_or, drop}
+use Rattle.std.proofs.Common.{sym, refl, ap, ◌∙◌, ⊎_elim, add-zero, add-suc, eq-or-lt_of_le, add-one, arith, ne_eqb}
 use Rattle.lists.specs.Folds.{every, tally, turns, falls, along, over}
 use Rattle.lists.proofs.Bools.{and-true, and_none, and-false}
 use Rattle.lists.proofs.Parts.{left_at, left-none}
@@ -98,7 +99,11 @@ module _ {S : Type 0} (f : ℕ → S → S) where
 
   pub falls-turn : {n : ℕ} {s₀ s t : S} {k : ℕ} → Falls n s₀ s k → 0 < k → t ≡ f (k - 1) s → Falls n s₀ t (k - 1)
   unfolding falls
-  falls-turn {s = s} {k = k} v h e = record { within = omega (arith, v.within); rest = v.rest ∙ ap (λ (m : ℕ). falls m f s) {x = k} {y = suc (k - 1)} (omega arith) ∙ more (k - 1) ∙ ap (falls (k - 1) f) (sym e) }
+  falls-turn {s = s} {k = k} v h e = record {
+    within = omega (arith, v.within);
+    rest = v.rest ∙
+        ap (λ (m : ℕ). falls m f s) {x = k} {y = suc (k - 1)} (omega arith) ∙ more (k - 1) ∙ ap (falls (k - 1) f) (sym e);
+  }
     where
       more : (m : ℕ) → falls (suc m) f s ≡ falls m f (f m s)
       more m = refl
@@ -123,7 +128,11 @@ module _ {A S : Type 0} (f : A → S → S) (l : List A) where
   unfolding along
   along-turn {s = s} {t = t} {k = k} d v h e =
       let r = v.rest in
-      record { within = omega arith; rest = (rw (left_at l k d h) at r) ∙ more (get_or l k d) (drop (k + 1) l) ∙ ap (along f (drop (k + 1) l)) (sym e) }
+      record {
+        within = omega arith;
+        rest = (rw (left_at l k d h) at r) ∙ more (get_or l k d) (drop (k + 1) l) ∙
+            ap (along f (drop (k + 1) l)) (sym e);
+      }
     where
       more : (a : A) (m : List A) → along f (a ∷ m) s ≡ along f m (f a s)
       more a m = refl
@@ -136,7 +145,8 @@ module _ {A S : Type 0} (f : A → S → S) (l : List A) where
       nothing = refl
 
 -- ---- over: the same for two lists side by side
-pub over_first : {A B S : Type 0} (f : A → B → S → S) (a : A) (b : B) (l : List A) (m : List B) (s : S) → over f (a ∷ l) (b ∷ m) s ≡ over f l m (f a b s)
+pub over_first : {A B S : Type 0} (f : A → B → S → S) (a : A) (b : B) (l : List A) (m : List B) (s : S) → over f (a ∷ l) (b ∷ m) s
+    ≡ over f l m (f a b s)
 unfolding over
 over_first f a b l m s = refl
 
@@ -148,13 +158,15 @@ module _ {A B S : Type 0} (f : A → B → S → S) (l : List A) (m : List B) wh
   pub over-start : (s : S) → Over s s 0
   over-start s = record { within = omega arith; rest = refl }
 
-  pub over-turn : {s₀ s t : S} {k : ℕ} (d : A) (e : B) → length m ≡ length l → Over s₀ s k → k < length l → t ≡ f (get_or l k d) (get_or m k e) s → Over s₀ t (k + 1)
+  pub over-turn : {s₀ s t : S} {k : ℕ} (d : A) (e : B) → length m ≡ length l → Over s₀ s k → k < length l → t ≡ f (get_or l k d) (get_or m k e) s →
+      Over s₀ t (k + 1)
   unfolding over
   over-turn {s = s} {t = t} {k = k} d e n v h g =
       let r = v.rest in
       record {
         within = omega arith;
-        rest = (rw (left_at l k d h, left_at m k e (omega arith)) at r) ∙ more (get_or l k d) (get_or m k e) (drop (k + 1) l) (drop (k + 1) m) ∙ ap (over f (drop (k + 1) l) (drop (k + 1) m)) (sym g);
+        rest = (rw (left_at l k d h, left_at m k e (omega arith)) at r) ∙ more (get_or l k d) (get_or m k e) (drop (k + 1) l) (drop (k + 1) m) ∙
+            ap (over f (drop (k + 1) l) (drop (k + 1) m)) (sym g);
       }
     where
       more : (a : A) (b : B) (u : List A) (w : List B) → over f (a ∷ u) (b ∷ w) s ≡ over f u w (f a b s)

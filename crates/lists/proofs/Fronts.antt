@@ -1,5 +1,6 @@
 -- A list that was written to from the front: what stands in front, and that the rest is as it was. Assumes nothing.
-use Rattle.std.proofs.Common.{◌≡◌, ℕ, zero, suc, ◌+◌, ◌-◌, ◌<◌, ◌≤◌, List, [], ◌∷◌, ◌++◌, length, take, drop, set, replicate, sym, refl, ap, ◌∙◌, add-one, arith, take-append-drop, length-take-le, drop-drop, take-suc-set, drop-set-lt}
+use Rattle.std.proofs.Common.{◌≡◌, ℕ, zero, suc, ◌+◌, ◌-◌, ◌<◌, ◌≤◌, List, [], ◌∷◌, ◌++◌, length, take, drop, set, replicate, sym, refl, ap, ◌∙◌}
+use Rattle.std.proofs.Common.{add-one, arith, take-append-drop, length-take-le, drop-drop, take-suc-set, drop-set-lt}
 use Rattle.lists.specs.Calls.{cleared, onto}
 
 module _ {A : Type 0} where

@@ -1,5 +1,6 @@
 -- Slices of which no more than the first n places have changed. Assumes nothing.
-use Rattle.std.proofs.Common.{◌≡◌, ℕ, ◌+◌, ◌-◌, ◌≤◌, List, ◌++◌, length, drop, refl, ◌∙◌, arith, length-append, length-drop, get_or-drop, get_or-append-add}
+use Rattle.std.proofs.Common.{◌≡◌, ℕ, ◌+◌, ◌-◌, ◌≤◌, List, ◌++◌, length, drop, refl, ◌∙◌, arith, length-append, length-drop, get_or-drop}
+use Rattle.std.proofs.Common.{get_or-append-add}
 use Rattle.lists.specs.Calls.{onto, cleared}
 use Rattle.lists.specs.Keeping.{Kept}
 use Rattle.lists.specs.Parts.{placed}

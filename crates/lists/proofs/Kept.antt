@@ -1,5 +1,6 @@
 -- What is kept of a list at which a test holds, place by place. Assumes nothing.
-use Rattle.std.proofs.Common.{◌≡◌, ℕ, ◌+◌, ◌<◌, ◌≤◌, Bool, true, false, cond, List, [], ◌∷◌, ◌++◌, length, get_or, take, drop, sym, ap, ◌∙◌, add-one, arith, length-append, take-append-drop, take-suc}
+use Rattle.std.proofs.Common.{◌≡◌, ℕ, ◌+◌, ◌<◌, ◌≤◌, Bool, true, false, cond, List, [], ◌∷◌, ◌++◌, length, get_or, take, drop, sym, ap, ◌∙◌}
+use Rattle.std.proofs.Common.{add-one, arith, length-append, take-append-drop, take-suc}
 use Rattle.lists.specs.Choices.{keep}
 use Rattle.lists.proofs.Chosen.{keep_append}
 
@@ -8,7 +9,8 @@ module _ (f : ℕ → Bool) (l : List ℕ) where
   unfolding keep
   one_kept r b e = rw e
 
-  pub keep-next : (k : ℕ) → k < length l → (b : Bool) → f (get_or l k 0) ≡ b → keep f (take (k + 1) l) ≡ keep f (take k l) ++ cond b (get_or l k 0 ∷ []) []
+  pub keep-next : (k : ℕ) → k < length l → (b : Bool) → f (get_or l k 0) ≡ b → keep f (take (k + 1) l)
+      ≡ keep f (take k l) ++ cond b (get_or l k 0 ∷ []) []
   keep-next k h b e =
       rw (add-one, take-suc l k 0 h)
       (keep_append f (take k l) (get_or l k 0 ∷ []) ∙ ap (λ (t : List ℕ). keep f (take k l) ++ t) (one_kept (get_or l k 0) b e))

@@ -1,5 +1,7 @@
 -- Lists laid one behind another: in a slice, written front by front; and columns, found again by where they start. Assumes nothing.
-use Rattle.std.proofs.Common.{◌≡◌, ℕ, ◌+◌, ◌-◌, ◌<◌, ◌≤◌, List, [], ◌∷◌, ◌++◌, length, get_or, take, drop, set, replicate, sym, refl, ap, ◌∙◌, append_assoc, append-nil, add-one, arith, length-append, length-take-le, take_all, take-suc, drop-drop, take_at, drop_at}
+use Rattle.std.proofs.Common.{◌≡◌, ℕ, ◌+◌, ◌-◌, ◌<◌, ◌≤◌, List, [], ◌∷◌, ◌++◌, length, get_or, take, drop, set, replicate, sym, refl, ap, ◌∙◌}
+use Rattle.std.proofs.Common.{append_assoc, append-nil, add-one, arith, length-append, length-take-le, take_all, take-suc, drop-drop, take_at}
+use Rattle.std.proofs.Common.{drop_at}
 use lib.Seq.{drop-length}
 use Rattle.lists.specs.Calls.{onto, cleared}
 use Rattle.lists.specs.Parts.{part, placed}
@@ -11,7 +13,8 @@ module _ {A : Type 0} where
   unfolding onto
   onto-placed d g ys a b e h f =
       let n : length (g ++ ys) ≡ a + (b - a) = omega (arith, length-append g ys) in
-      rw (take_at g (drop (length g) d) a e, drop_at g (drop (length g) d) a e, e, drop-drop (b - a) a d, n) (sym (append_assoc g ys (drop (a + (b - a)) d)))
+      rw (take_at g (drop (length g) d) a e, drop_at g (drop (length g) d) a e, e, drop-drop (b - a) a d, n)
+      (sym (append_assoc g ys (drop (a + (b - a)) d)))
 
   -- a whole front
   pub placed-front : (d ys : List A) (n : ℕ) → length ys ≡ n → placed 0 n d ys ≡ onto d ys

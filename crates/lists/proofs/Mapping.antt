@@ -1,5 +1,6 @@
 -- A loop that puts f of each element in its place, over the element type. Assumes nothing.
-use Rattle.std.proofs.Common.{◌≡◌, ℕ, ◌+◌, ◌<◌, ◌≤◌, List, [], ◌∷◌, ◌++◌, map, length, get_or, take, drop, set, refl, ap, ◌∙◌, append_assoc, append-nil, add-one, arith, length-append, length-drop, length-take-le, take_all, take-suc}
+use Rattle.std.proofs.Common.{◌≡◌, ℕ, ◌+◌, ◌<◌, ◌≤◌, List, [], ◌∷◌, ◌++◌, map, length, get_or, take, drop, set, refl, ap, ◌∙◌, append_assoc}
+use Rattle.std.proofs.Common.{append-nil, add-one, arith, length-append, length-drop, length-take-le, take_all, take-suc}
 use mathlib.Core.List.{map-append}
 use lib.ListN.{length-map}
 use lib.Seq.{set_at, get_or_at}
@@ -34,10 +35,12 @@ module _ {A : Type 0} (f : A → A) where
 
       pub mapping_turn : {x : A} → x ≡ f (get_or l k z) → Mapping l₀ (set l k x) (k + 1)
       mapping_turn {x = x} e =
-          let t : map f (take (k + 1) l₀) ≡ map f (take k l₀) ++ (f (get_or l₀ k z) ∷ []) = rw (add-one, take-suc l₀ k z in_l₀) (map-append f (take k l₀) (get_or l₀ k z ∷ [])) in
+          let t : map f (take (k + 1) l₀) ≡ map f (take k l₀) ++ (f (get_or l₀ k z) ∷ []) =
+          rw (add-one, take-suc l₀ k z in_l₀) (map-append f (take k l₀) (get_or l₀ k z ∷ [])) in
           record {
             within = omega (arith, mapping_long);
-            is = rw (t, append_assoc, ← unchanged, ← e) (ap (λ (q : List A). set q k x) is_at ∙ set_at (map f (take k l₀)) (get_or l₀ k z) (drop (k + 1) l₀) x k front);
+            is = rw (t, append_assoc, ← unchanged, ← e) (ap (λ (q : List A). set q k x) is_at ∙
+                set_at (map f (take k l₀)) (get_or l₀ k z) (drop (k + 1) l₀) x k front);
           }
 
     pub mapping_done : length l ≤ k → l ≡ map f l₀

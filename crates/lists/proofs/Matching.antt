@@ -1,5 +1,6 @@
 -- Whether a slice starts with a list: by places, by parts, and the loop that tells. Assumes nothing.
-use Rattle.std.proofs.Common.{◌≡◌, ℕ, zero, suc, ◌<◌, ◌≤◌, Bool, true, false, ◌&&◌, eqb, List, [], ◌∷◌, ◌++◌, length, get_or, take, sym, refl, ap, true≢false, arith, eq-eqb, eqb-true}
+use Rattle.std.proofs.Common.{◌≡◌, ℕ, zero, suc, ◌<◌, ◌≤◌, Bool, true, false, ◌&&◌, eqb, List, [], ◌∷◌, ◌++◌, length, get_or, take, sym, refl, ap}
+use Rattle.std.proofs.Common.{true≢false, arith, eq-eqb, eqb-true}
 use Rattle.lists.specs.Folds.{every}
 use Rattle.lists.proofs.Bools.{alike, and-true}
 use Rattle.lists.proofs.Folds.{every-all, every-at}

@@ -1,5 +1,6 @@
 -- Whether a number is listed, by the parts of a list; and what stands at a place of a list, whatever stands past its end. Assumes nothing.
-use Rattle.std.proofs.Common.{◌≡◌, ℕ, zero, suc, ◌<◌, Bool, true, false, ◌||◌, eqb, ◌≢◌, ◌⊎◌, List, [], ◌∷◌, ◌++◌, length, get_or, refl, inl, inr, arith, eq-eqb, ne_eqb}
+use Rattle.std.proofs.Common.{◌≡◌, ℕ, zero, suc, ◌<◌, Bool, true, false, ◌||◌, eqb, ◌≢◌, ◌⊎◌, List, [], ◌∷◌, ◌++◌, length, get_or, refl, inl, inr}
+use Rattle.std.proofs.Common.{arith, eq-eqb, ne_eqb}
 use mathlib.Core.List.{Memᴰ}
 use Rattle.lists.specs.Order.{lists}
 use Rattle.lists.proofs.Bools.{not-both}

@@ -1,5 +1,6 @@
 -- Lists that hold each number once: their parts, and how many numbers they are. Assumes nothing.
-use Rattle.std.proofs.Common.{◌≡◌, ℕ, zero, suc, ◌+◌, ◌<◌, Bool, true, false, cond, ◌&&◌, ◌||◌, eqb, ◌⊎◌, List, [], ◌∷◌, ◌++◌, length, get_or, take, drop, sym, refl, ap, ◌∙◌, ⊎_elim, eq-or-lt_of_le, arith, length-append, take-append-drop, length-take-le, get_or-take}
+use Rattle.std.proofs.Common.{◌≡◌, ℕ, zero, suc, ◌+◌, ◌<◌, Bool, true, false, cond, ◌&&◌, ◌||◌, eqb, ◌⊎◌, List, [], ◌∷◌, ◌++◌, length, get_or, take}
+use Rattle.std.proofs.Common.{drop, sym, refl, ap, ◌∙◌, ⊎_elim, eq-or-lt_of_le, arith, length-append, take-append-drop, length-take-le, get_or-take}
 use mathlib.Core.List.Memᴰ
 use mathlib.Core.List.{Memᴰ}
 use lib.ListN.{get_or-append}
@@ -27,7 +28,8 @@ once_snoc x (one_more {x = y} {xs = l} n o) h =
     tail_free : (x ≡ y) ⊎ (x ≡ y → ⊥) → lists x l ≡ false
     tail_free t = ⊎_elim (λ (e : x ≡ y). absurd (not-both (lists x (y ∷ l)) (lists-same x y l e) h)) (λ d. sym (lists_other x y l d) ∙ h) t
 
-pub below_snoc : (l : List ℕ) (x n : ℕ) → ((k : ℕ) → k < length l → get_or l k 0 < n) → x < n → (k : ℕ) → k < length (l ++ (x ∷ [])) → get_or (l ++ (x ∷ [])) k 0 < n
+pub below_snoc : (l : List ℕ) (x n : ℕ) → ((k : ℕ) → k < length l → get_or l k 0 < n) → x < n → (k : ℕ) → k < length (l ++ (x ∷ [])) →
+    get_or (l ++ (x ∷ [])) k 0 < n
 below_snoc l x n f h k g =
     ⊎_elim
     (λ (e : k ≡ length l). rw (e, get_or_at l x [] 0 (length l) refl) h)
@@ -56,7 +58,8 @@ once_new {l} o k h =
     (λ i g e. let m = length-take-le k l (omega arith) in once-apart o i k (omega (arith, m)) h (sym (get_or-take k l i 0 (omega (arith, m))) ∙ e))
 
 -- ---- how many
-card_step : (n : ℕ) (f g : ℕ → Bool) (y : ℕ) → y < n → f y ≡ true → g y ≡ false → ((r : ℕ) → (r ≡ y → ⊥) → f r ≡ g r) → length (chosen n f) ≡ length (chosen n g) + 1
+card_step : (n : ℕ) (f g : ℕ → Bool) (y : ℕ) → y < n → f y ≡ true → g y ≡ false → ((r : ℕ) → (r ≡ y → ⊥) → f r ≡ g r) → length (chosen n f)
+    ≡ length (chosen n g) + 1
 unfolding chosen
 card_step zero f g y h p q s = absurd (omega arith)
 card_step (suc n) f g y h p q s = ⊎_elim here (λ (l : y < n). further l (card_step n f g y l p q s)) (eq-or-lt_of_le (omega arith))
@@ -72,9 +75,17 @@ card_step (suc n) f g y h p q s = ⊎_elim here (λ (l : y < n). further l (card
     here : y ≡ n → length (chosen n f ++ cond (f n) (n ∷ []) []) ≡ length (chosen n g ++ cond (g n) (n ∷ []) []) + 1
     here e =
         let a : chosen n f ≡ chosen n g = chosen_alike n f g (λ r l. s r (λ z. omega arith)) in
-        omega (arith, length-append (chosen n f) (cond (f n) (n ∷ []) []), length-append (chosen n g) (cond (g n) (n ∷ []) []), ap length a, one (f n) (rw e at p), no_one (g n) (rw e at q))
+        omega (
+          arith,
+          length-append (chosen n f) (cond (f n) (n ∷ []) []),
+          length-append (chosen n g) (cond (g n) (n ∷ []) []),
+          ap length a,
+          one (f n) (rw e at p),
+          no_one (g n) (rw e at q),
+        )
 
-    further : y < n → length (chosen n f) ≡ length (chosen n g) + 1 → length (chosen n f ++ cond (f n) (n ∷ []) []) ≡ length (chosen n g ++ cond (g n) (n ∷ []) []) + 1
+    further : y < n → length (chosen n f) ≡ length (chosen n g) + 1 → length (chosen n f ++ cond (f n) (n ∷ []) [])
+        ≡ length (chosen n g ++ cond (g n) (n ∷ []) []) + 1
     further l i =
         let a : length (cond (f n) (n ∷ []) []) ≡ length (cond (g n) (n ∷ []) []) = rw (s n (λ z. omega arith)) in
         omega (arith, length-append (chosen n f) (cond (f n) (n ∷ []) []), length-append (chosen n g) (cond (g n) (n ∷ []) []), a, i)
@@ -93,7 +104,8 @@ keep_all [] = refl
 keep_all (x ∷ l) = ap (λ (t : List ℕ). x ∷ t) (keep_all l)
 
 -- those of a list at which a test holds
-pub keep_card : (n : ℕ) (f : ℕ → Bool) {l : List ℕ} → Once l → ((k : ℕ) → k < length l → get_or l k 0 < n) → length (keep f l) ≡ length (chosen n (λ r. lists r l && f r))
+pub keep_card : (n : ℕ) (f : ℕ → Bool) {l : List ℕ} → Once l → ((k : ℕ) → k < length l → get_or l k 0 < n) → length (keep f l)
+    ≡ length (chosen n (λ r. lists r l && f r))
 unfolding keep
 keep_card n f no_more h = sym (ap length (nothing n))
   where
@@ -107,11 +119,18 @@ keep_card n f (one_more {x = y} {xs = l} o r) h = go (f y) refl (keep_card n f r
     away : (q : ℕ) → (q ≡ y → ⊥) → (lists q (y ∷ l) && f q) ≡ (lists q l && f q)
     away q d = rw (lists_other q y l d)
 
-    go : (b : Bool) → f y ≡ b → length (keep f l) ≡ length (chosen n (λ q. lists q l && f q)) → length (cond b (y ∷ keep f l) (keep f l)) ≡ length (chosen n (λ q. lists q (y ∷ l) && f q))
+    go : (b : Bool) → f y ≡ b → length (keep f l) ≡ length (chosen n (λ q. lists q l && f q)) → length (cond b (y ∷ keep f l) (keep f l))
+        ≡ length (chosen n (λ q. lists q (y ∷ l) && f q))
     go true e i =
-        omega (arith, i, card_step n (λ q. lists q (y ∷ l) && f q) (λ q. lists q l && f q) y (h 0 (omega arith)) (rw (lists-same y y l refl) e) (rw free) away)
+        omega (
+          arith,
+          i,
+          card_step n (λ q. lists q (y ∷ l) && f q) (λ q. lists q l && f q) y (h 0 (omega arith)) (rw (lists-same y y l refl) e)
+              (rw free) away,
+        )
     go false e i =
-        i ∙ ap length (chosen_alike n (λ q. lists q l && f q) (λ q. lists q (y ∷ l) && f q) (λ q g. ⊎_elim (λ (z : q ≡ y). rw (z, e, and-false (lists y l), and-false (lists y (y ∷ l)))) (λ z. sym (away q z)) (eq-or-ne q y)))
+        i ∙ ap length (chosen_alike n (λ q. lists q l && f q) (λ q. lists q (y ∷ l) && f q)
+        (λ q g. ⊎_elim (λ (z : q ≡ y). rw (z, e, and-false (lists y l), and-false (lists y (y ∷ l)))) (λ z. sym (away q z)) (eq-or-ne q y)))
 
 -- and all of them
 pub card_once : (n : ℕ) {l : List ℕ} → Once l → ((k : ℕ) → k < length l → get_or l k 0 < n) → length (chosen n (λ r. lists r l)) ≡ length l

@@ -1,12 +1,14 @@
 -- Strictly rising lists, each number once, and what the tests say. Assumes nothing.
-use Rattle.std.proofs.Common.{◌≡◌, ℕ, zero, suc, ◌+◌, ◌-◌, ◌<◌, ◌≤◌, Bool, true, false, ◌||◌, eqb, ltb, List, [], ◌∷◌, length, get_or, sym, refl, ⊎_elim, true≢false, eq-or-lt_of_le, add-one, arith, ltb-true, lt-ltb, eq-eqb, eqb-true}
+use Rattle.std.proofs.Common.{◌≡◌, ℕ, zero, suc, ◌+◌, ◌-◌, ◌<◌, ◌≤◌, Bool, true, false, ◌||◌, eqb, ltb, List, [], ◌∷◌, length, get_or, sym, refl}
+use Rattle.std.proofs.Common.{⊎_elim, true≢false, eq-or-lt_of_le, add-one, arith, ltb-true, lt-ltb, eq-eqb, eqb-true}
 use mathlib.Core.List.Memᴰ
 use mathlib.Core.List.{Memᴰ}
 use Rattle.lists.specs.Order.{rises, lists, Rising, flat, step, Once, no_more, one_more}
 use Rattle.lists.proofs.Folds.{every-at, every-all}
 
 -- numbers each no larger than the next are no larger than each later one
-pub steps-climb : (n : ℕ) (l : List ℕ) → ((r : ℕ) → r < n → get_or l r 0 ≤ get_or l (r + 1) 0) → (a b : ℕ) → a ≤ b → b ≤ n → get_or l a 0 ≤ get_or l b 0
+pub steps-climb : (n : ℕ) (l : List ℕ) → ((r : ℕ) → r < n → get_or l r 0 ≤ get_or l (r + 1) 0) → (a b : ℕ) → a ≤ b → b ≤ n →
+    get_or l a 0 ≤ get_or l b 0
 steps-climb n l s a zero h g = let e : a ≡ 0 = omega arith in rw e (omega arith)
 steps-climb n l s a (suc b) h g =
     let m : get_or l b 0 ≤ get_or l (suc b) 0 = rw add-one at (s b g) in
@@ -29,7 +31,8 @@ rises-apart l h k (suc q) m n =
 -- each below the next, place by place, is the test
 pub rises-all : (l : List ℕ) → ((k : ℕ) → suc k < length l → get_or l k 0 < get_or l (suc k) 0) → rises l ≡ true
 unfolding rises
-rises-all l h = every-all (length l - 1) (λ k. ltb (get_or l k 0) (get_or l (k + 1) 0)) (λ k m. lt-ltb (get_or l k 0) (get_or l (k + 1) 0) (rw add-one (h k (omega arith))))
+rises-all l h = every-all (length l - 1) (λ k. ltb (get_or l k 0) (get_or l (k + 1) 0))
+    (λ k m. lt-ltb (get_or l k 0) (get_or l (k + 1) 0) (rw add-one (h k (omega arith))))
 
 -- and the fact the test
 first_least : {b : ℕ} {l : List ℕ} → Rising b l → 0 < length l → b ≤ get_or l 0 0

@@ -1,5 +1,7 @@
 -- A list by its parts: what is left of it at an index, the part between two places, a front that was written. Assumes nothing.
-use Rattle.std.proofs.Common.{◌≡◌, ℕ, zero, suc, ◌+◌, ◌-◌, ◌<◌, ◌≤◌, List, [], ◌∷◌, ◌++◌, length, get_or, take, drop, set, sym, refl, ◌∙◌, ⊎_elim, append_assoc, add-one, arith, length-append, length-drop, drop_of_length-le, length-take-le, get_or-drop, drop-cons, get_or-take, take-take, take-suc-set, get_or-append-add, ext_get_or}
+use Rattle.std.proofs.Common.{◌≡◌, ℕ, zero, suc, ◌+◌, ◌-◌, ◌<◌, ◌≤◌, List, [], ◌∷◌, ◌++◌, length, get_or, take, drop, set, sym, refl, ◌∙◌, ⊎_elim}
+use Rattle.std.proofs.Common.{append_assoc, add-one, arith, length-append, length-drop, drop_of_length-le, length-take-le, get_or-drop, drop-cons}
+use Rattle.std.proofs.Common.{get_or-take, take-take, take-suc-set, get_or-append-add, ext_get_or}
 use lib.ListN.{get_or-append}
 use lib.Seq.{set_at, take-nil}
 use Rattle.lists.specs.Parts.{part, placed}
@@ -39,7 +41,14 @@ module _ {A : Type 0} where
   -- ---- a part that comes back
   pub length-placed : (a b : ℕ) (l ys : List A) → a ≤ b → b ≤ length l → length ys ≡ b - a → length (placed a b l ys) ≡ length l
   length-placed a b l ys h g e =
-      omega (arith, length-append (take a l) (ys ++ drop (b - a) (drop a l)), length-append ys (drop (b - a) (drop a l)), length-drop (b - a) (drop a l), length-drop a l, length-take-le a l (omega arith))
+      omega (
+        arith,
+        length-append (take a l) (ys ++ drop (b - a) (drop a l)),
+        length-append ys (drop (b - a) (drop a l)),
+        length-drop (b - a) (drop a l),
+        length-drop a l,
+        length-take-le a l (omega arith),
+      )
 
   -- ---- the front of a list
   at_front : (g d : List A) (z : A) (k : ℕ) → length g ≤ k → get_or (g ++ drop (length g) d) k z ≡ get_or d k z
@@ -83,5 +92,6 @@ module _ {A : Type 0} where
   onto-none d = refl
 
 -- numbers that are all below m are so in a part
-pub part-below : (a e m : ℕ) (l : List ℕ) → e ≤ length l → ((k : ℕ) → k < length l → get_or l k 0 < m) → (k : ℕ) → k < length (part a e l) → get_or (part a e l) k 0 < m
+pub part-below : (a e m : ℕ) (l : List ℕ) → e ≤ length l → ((k : ℕ) → k < length l → get_or l k 0 < m) → (k : ℕ) → k < length (part a e l) →
+    get_or (part a e l) k 0 < m
 part-below a e m l h f k g = let n = length_part a e l h in rw (get_d_part a e l k 0 (omega arith)) (f (a + k) (omega (arith, n)))

@@ -8,7 +8,8 @@ pub lowest-none : (cs ds : List (ℕ × Bool)) → Early cs → lowest (cs ++ ds
 lowest-none [] ds g h = (refl, h)
 lowest-none (c ∷ cs) ds g h = go c.1 h (lowest-none cs ds g.2)
   where
-    go : (b : Bool) → cond b c.0 (lowest (cs ++ ds)) ≡ 0 → (lowest (cs ++ ds) ≡ 0 → (lowest cs ≡ 0) × (lowest ds ≡ 0)) → (cond b c.0 (lowest cs) ≡ 0) × (lowest ds ≡ 0)
+    go : (b : Bool) → cond b c.0 (lowest (cs ++ ds)) ≡ 0 → (lowest (cs ++ ds) ≡ 0 → (lowest cs ≡ 0) × (lowest ds ≡ 0)) →
+        (cond b c.0 (lowest cs) ≡ 0) × (lowest ds ≡ 0)
     go true h f = absurd (omega (arith, g.0))
     go false h f = f h
 

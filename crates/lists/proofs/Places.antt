@@ -1,5 +1,6 @@
 -- A part that came back (`placed`), place by place, and what stands in front of a list that was written to. Assumes nothing.
-use Rattle.std.proofs.Common.{◌≡◌, ℕ, ◌+◌, ◌-◌, ◌<◌, ◌≤◌, List, ◌++◌, length, get_or, take, drop, ◌∙◌, arith, length-take-le, get_or-drop, get_or-take, get_or-append-add}
+use Rattle.std.proofs.Common.{◌≡◌, ℕ, ◌+◌, ◌-◌, ◌<◌, ◌≤◌, List, ◌++◌, length, get_or, take, drop, ◌∙◌, arith, length-take-le, get_or-drop}
+use Rattle.std.proofs.Common.{get_or-take, get_or-append-add}
 use lib.ListN.{get_or-append}
 use lib.Seq.{take-append_seam}
 use Rattle.lists.specs.Calls.{onto, cleared}

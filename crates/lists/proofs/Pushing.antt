@@ -1,5 +1,6 @@
 -- A part of a list once an element is stored behind it, or elsewhere; and parts that lie one behind the other. Assumes nothing.
-use Rattle.std.proofs.Common.{◌≡◌, ℕ, zero, suc, ◌+◌, ◌-◌, ◌<◌, ◌≤◌, ◌⊎◌, List, [], ◌∷◌, ◌++◌, length, get_or, take, drop, set, ap, ◌∙◌, ⊎_elim, arith, length-drop, take-take, drop-drop, take-suc-set, drop-set-lt, take-add}
+use Rattle.std.proofs.Common.{◌≡◌, ℕ, zero, suc, ◌+◌, ◌-◌, ◌<◌, ◌≤◌, ◌⊎◌, List, [], ◌∷◌, ◌++◌, length, get_or, take, drop, set, ap, ◌∙◌, ⊎_elim}
+use Rattle.std.proofs.Common.{arith, length-drop, take-take, drop-drop, take-suc-set, drop-set-lt, take-add}
 use mathlib.Core.List.{flatten}
 use lib.Seq.{drop-set-add, take-set-le}
 use Rattle.lists.specs.Tables.{from}
@@ -18,7 +19,8 @@ module _ {A : Type 0} where
 
   -- a place outside stored
   pub part_apart : (s e z : ℕ) (l : List A) (a : A) → (e ≤ z) ⊎ (z < s) → part s e (set l z a) ≡ part s e l
-  part_apart s e z l a o = ⊎_elim (λ (h : e ≤ z). ⊎_elim (λ (g : s ≤ z). behind h g) (λ (g : z < s). before g) (le-or-lt s z)) (λ (g : z < s). before g) o
+  part_apart s e z l a o = ⊎_elim (λ (h : e ≤ z). ⊎_elim (λ (g : s ≤ z). behind h g) (λ (g : z < s). before g) (le-or-lt s z))
+      (λ (g : z < s). before g) o
     where
       before : z < s → part s e (set l z a) ≡ part s e l
       before g = rw (drop-set-lt s l z a g)
@@ -45,7 +47,8 @@ module _ {A : Type 0} where
       rw (e, take-add (b - a) (c - b) (drop a l), drop-drop (b - a) a l, d)
 
   -- all parts between places that climb
-  pub parts_laid : (n : ℕ) (p q : List ℕ) (l : List A) → ((a b : ℕ) → a ≤ b → b ≤ n → get_or p a 0 ≤ get_or p b 0) → ((j : ℕ) → j < n → get_or q j 0 ≡ get_or p (j + 1) 0)
+  pub parts_laid : (n : ℕ) (p q : List ℕ) (l : List A) → ((a b : ℕ) → a ≤ b → b ≤ n → get_or p a 0 ≤ get_or p b 0) →
+      ((j : ℕ) → j < n → get_or q j 0 ≡ get_or p (j + 1) 0)
       → (b m : ℕ) → b + m ≤ n → flatten (from (λ j. part (get_or p j 0) (get_or q j 0) l) b m) ≡ part (get_or p b 0) (get_or p (b + m) 0) l
   unfolding flatten from
   parts_laid n p q l up is b zero h =
@@ -56,4 +59,5 @@ module _ {A : Type 0} where
       let e : b + suc m ≡ suc b + m = omega arith in
       let s : get_or q b 0 ≡ get_or p (suc b) 0 = is b (omega arith) ∙ ap (λ (j : ℕ). get_or p j 0) {x = b + 1} {y = suc b} (omega arith) in
       rw (s, e, parts_laid n p q l up is (suc b) m (omega arith))
-      (part-append (get_or p b 0) (get_or p (suc b) 0) (get_or p (suc b + m) 0) l (up b (suc b) (omega arith) (omega arith)) (up (suc b) (suc b + m) (omega arith) (omega arith)))
+      (part-append (get_or p b 0) (get_or p (suc b) 0) (get_or p (suc b + m) 0) l (up b (suc b) (omega arith) (omega arith))
+      (up (suc b) (suc b + m) (omega arith) (omega arith)))

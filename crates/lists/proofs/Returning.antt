@@ -19,13 +19,15 @@ module _ {A : Type 0} (z : A) where
       let k : n ≤ length (cleared z m l) = omega (arith, length-cleared z m l) in
       part-front n (cleared z m l)
       ∙ ext_get_or z (take n (cleared z m l)) (replicate n z) (length-take-le n (cleared z m l) k ∙ sym (length-replicate n z))
-      (λ i b. let c : i < n = omega (arith, length-take-le n (cleared z m l) k) in get_or-take n (cleared z m l) i z c ∙ cleared-front z m l i (omega arith) ∙ sym (get_or-replicate n i z z c))
+      (λ i b. let c : i < n = omega (arith, length-take-le n (cleared z m l) k) in get_or-take n (cleared z m l) i z c ∙
+      cleared-front z m l i (omega arith) ∙ sym (get_or-replicate n i z z c))
 
   -- cleared, whatever came back in front
   pub cleared-after : (n m : ℕ) (l ys : List A) → n ≤ m → n ≤ length l → length ys ≡ n → cleared z m (placed 0 n l ys) ≡ cleared z m l
   cleared-after n m l ys h g e =
       let d : length ys ≡ n - 0 = omega arith in
-      cleared-same z m (placed 0 n l ys) l (length-placed 0 n l ys (omega arith) g d) (λ q b. placed-after z 0 n l ys (omega arith) g d q (omega arith))
+      cleared-same z m (placed 0 n l ys) l (length-placed 0 n l ys (omega arith) g d)
+      (λ q b. placed-after z 0 n l ys (omega arith) g d q (omega arith))
 
   -- a front that was written, then cleared
   pub cleared-written : (t : ℕ) (l ys : List A) → t ≤ length l → length ys ≡ t → cleared z t (placed 0 t l ys) ≡ onto l (replicate t z)

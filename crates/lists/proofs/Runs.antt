@@ -1,6 +1,8 @@
 -- Runs: a rising list that is tight is one; a step at each row of a run, each on its own place, is one pass over two parts; and
 -- the loop that makes that pass. Assumes nothing.
-use Rattle.std.proofs.Common.{◌≡◌, ℕ, zero, suc, ◌+◌, ◌-◌, ◌<◌, ◌≤◌, min, true, false, eqb, ltb, ◌⊎◌, List, [], ◌∷◌, ◌++◌, length, get_or, take, drop, set, sym, refl, ap, ◌∙◌, ⊎_elim, append_assoc, add-one, arith, length-append, length-drop, take-append-drop, length-take-le, get_or-drop, take_all, ltb-true, lt-ltb, eqb-true}
+use Rattle.std.proofs.Common.{◌≡◌, ℕ, zero, suc, ◌+◌, ◌-◌, ◌<◌, ◌≤◌, min, true, false, eqb, ltb, ◌⊎◌, List, [], ◌∷◌, ◌++◌, length, get_or, take}
+use Rattle.std.proofs.Common.{drop, set, sym, refl, ap, ◌∙◌, ⊎_elim, append_assoc, add-one, arith, length-append, length-drop, take-append-drop}
+use Rattle.std.proofs.Common.{length-take-le, get_or-drop, take_all, ltb-true, lt-ltb, eqb-true}
 use lib.Seq.{set_at, get_or_at}
 use Rattle.lists.specs.Calls.{onto}
 use Rattle.lists.specs.Folds.{over}
@@ -16,12 +18,15 @@ use Rattle.lists.proofs.Parts.{length_part, get_d_part}
 pub rises-drop : (m : ℕ) (l : List ℕ) → rises l ≡ true → rises (drop m l) ≡ true
 rises-drop m l h =
     rises-all (drop m l)
-    (λ k g. (let e : m + suc k ≡ suc (m + k) = omega arith in rw (get_or-drop m l k 0, get_or-drop m l (suc k) 0, e) (rises-apart l h (m + k) (suc (m + k)) (omega arith) (omega (arith, length-drop m l)))))
+    (λ k g. (let e : m + suc k ≡ suc (m + k) = omega arith in
+    rw (get_or-drop m l k 0, get_or-drop m l (suc k) 0, e)
+    (rises-apart l h (m + k) (suc (m + k)) (omega arith) (omega (arith, length-drop m l)))))
 
 pub rises-part : (a b : ℕ) (l : List ℕ) → b ≤ length l → ((y z : ℕ) → a ≤ y → y < z → z < b → get_or l y 0 < get_or l z 0) → rises (part a b l) ≡ true
 rises-part a b l h f =
     rises-all (part a b l)
-    (λ k g. (let n = length_part a b l h in rw (get_d_part a b l k 0 (omega arith), get_d_part a b l (suc k) 0 (omega arith)) (f (a + k) (a + suc k) (omega arith) (omega arith) (omega arith))))
+    (λ k g. (let n = length_part a b l h in rw (get_d_part a b l k 0 (omega arith), get_d_part a b l (suc k) 0 (omega arith))
+    (f (a + k) (a + suc k) (omega arith) (omega arith) (omega arith))))
 
 -- ---- which lists are runs
 -- d places on, a rising list is higher by d at least
@@ -45,7 +50,8 @@ module _ (l : List ℕ) (h : rises l ≡ true) (t : tight l ≡ true) where
 
   last : get_or l (length l - 1) 0 + 1 ≡ get_or l 0 0 + length l
   unfolding tight
-  last = eqb-true (get_or l (length l - 1) 0 + 1) (get_or l 0 0 + length l) (and-true (ltb 0 (length l)) (eqb (get_or l (length l - 1) 0 + 1) (get_or l 0 0 + length l)) t).1
+  last = eqb-true (get_or l (length l - 1) 0 + 1) (get_or l 0 0 + length l)
+      (and-true (ltb 0 (length l)) (eqb (get_or l (length l - 1) 0 + 1) (get_or l 0 0 + length l)) t).1
 
   at : (k : ℕ) → k < length l → get_or l k 0 ≡ get_or l 0 0 + k
   at k m =
@@ -68,7 +74,8 @@ pub tight-none : (l : List ℕ) → length l ≡ 0 → false ≡ tight l
 unfolding tight
 tight-none l e = rw e
 
-pub tight-told : (l : List ℕ) → (length l ≡ 0 → ⊥) → {a b : ℕ} → a ≡ get_or l (length l - 1) 0 → b ≡ get_or l 0 0 → eqb (a + 1) (b + length l) ≡ tight l
+pub tight-told : (l : List ℕ) → (length l ≡ 0 → ⊥) → {a b : ℕ} → a ≡ get_or l (length l - 1) 0 → b ≡ get_or l 0 0 → eqb (a + 1) (b + length l)
+    ≡ tight l
 unfolding tight
 tight-told l n e f = rw (lt-ltb 0 (length l) (omega (arith, n)), e, f)
 
@@ -136,7 +143,8 @@ module _ {A B : Type 0} (op : A → B → A) where
     zipping_done h = w.is ∙ either (le-or-lt (length vs) (length y₀))
       where
         either : (length vs ≤ length y₀) ⊎ (length y₀ < length vs) → zipped op y₀ (take k vs) ≡ zipped op y₀ vs
-        either = ⊎_elim (λ (l : length vs ≤ length y₀). ap (zipped op y₀) (take_all k vs (omega (arith, w.most)))) (λ (l : length y₀ < length vs). zipped_past k y₀ vs (omega (arith, w.most)))
+        either = ⊎_elim (λ (l : length vs ≤ length y₀). ap (zipped op y₀) (take_all k vs (omega (arith, w.most))))
+            (λ (l : length y₀ < length vs). zipped_past k y₀ vs (omega (arith, w.most)))
 
 module _ {A : Type 0} where
   -- a copy
@@ -153,18 +161,21 @@ module _ {A B : Type 0} (op : A → B → A) (d : A) (step : ℕ → B → List 
   Steps r = (z : ℕ) (v : B) (x : List A) → r ≤ z → step z v x ≡ set x z (op (get_or x z d) v)
 
   -- behind a front g
-  over_behind : (vs : List B) (r : ℕ) → Steps r → (g y : List A) → length g ≡ r → length vs ≤ length y → over step (run r (length vs)) vs (g ++ y) ≡ g ++ zipped op y vs
+  over_behind : (vs : List B) (r : ℕ) → Steps r → (g y : List A) → length g ≡ r → length vs ≤ length y → over step (run r (length vs)) vs (g ++ y)
+      ≡ g ++ zipped op y vs
   unfolding over from zipped
   over_behind [] r s g y e m = ap (λ (t : List A). g ++ t) (sym (zipped-none op y))
   over_behind (v ∷ vs) r s g [] e m = absurd (omega arith)
   over_behind (v ∷ vs) r s g (a ∷ y) e m =
-      let one : step r v (g ++ (a ∷ y)) ≡ (g ++ (op a v ∷ [])) ++ y = s r v (g ++ (a ∷ y)) (omega arith) ∙ (rw (get_or_at g a y d r e) (set_at g a y (op a v) r e)) ∙ sym (append_assoc g (op a v ∷ []) y) in
+      let one : step r v (g ++ (a ∷ y)) ≡ (g ++ (op a v ∷ [])) ++ y = s r v (g ++ (a ∷ y)) (omega arith) ∙
+      (rw (get_or_at g a y d r e) (set_at g a y (op a v) r e)) ∙ sym (append_assoc g (op a v ∷ []) y) in
       ap (over step (run (suc r) (length vs)) vs) one
       ∙ over_behind vs (suc r) (λ z w x l. s z w x (omega arith)) (g ++ (op a v ∷ [])) y (omega (arith, length-append g (op a v ∷ []))) (omega arith)
       ∙ append_assoc g (op a v ∷ []) (zipped op y vs)
 
   -- over a run of rows, from r to e: the part there, side by side with the values
-  pub over-run : (r e : ℕ) → Steps r → (vs : List B) (x : List A) → e ≡ r + length vs → e ≤ length x → over step (run r (length vs)) vs x ≡ placed r e x (zipped op (part r e x) vs)
+  pub over-run : (r e : ℕ) → Steps r → (vs : List B) (x : List A) → e ≡ r + length vs → e ≤ length x → over step (run r (length vs)) vs x
+      ≡ placed r e x (zipped op (part r e x) vs)
   over-run r e s vs x f m =
       let n : length vs ≡ e - r = omega arith in
       ap (over step (run r (length vs)) vs) (sym (take-append-drop r x))
@@ -172,7 +183,8 @@ module _ {A B : Type 0} (op : A → B → A) (d : A) (step : ℕ → B → List 
       ∙ ap (λ (t : List A). take r x ++ t) (zipped-front op (e - r) (drop r x) vs n)
 
   -- the same over rows that rise and are tight, once the part has come back
-  pub over-tight : (rows : List ℕ) → rises rows ≡ true → tight rows ≡ true → (r e : ℕ) → r ≡ get_or rows 0 0 → Steps r → (vs : List B) → length vs ≡ length rows → (x : List A) → e ≡ r + length vs
+  pub over-tight : (rows : List ℕ) → rises rows ≡ true → tight rows ≡ true → (r e : ℕ) → r ≡ get_or rows 0 0 → Steps r → (vs : List B) →
+      length vs ≡ length rows → (x : List A) → e ≡ r + length vs
       → e ≤ length x → {y : List A} → y ≡ zipped op (part r e x) vs → placed r e x y ≡ over step rows vs x
   over-tight rows h t r e f s vs n x i m {y} q =
       ap (placed r e x) q

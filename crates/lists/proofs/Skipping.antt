@@ -1,5 +1,6 @@
 -- The next number at which a test holds; and whether a number is listed, place by place. Assumes nothing.
-use Rattle.std.proofs.Common.{◌≡◌, ℕ, zero, suc, ◌+◌, ◌<◌, ◌≤◌, Bool, true, false, ◌||◌, eqb, List, [], ◌∷◌, ◌++◌, length, get_or, sym, refl, ap, ◌∙◌, ⊎_elim, eq-or-lt_of_le, add-one, arith}
+use Rattle.std.proofs.Common.{◌≡◌, ℕ, zero, suc, ◌+◌, ◌<◌, ◌≤◌, Bool, true, false, ◌||◌, eqb, List, [], ◌∷◌, ◌++◌, length, get_or, sym, refl, ap}
+use Rattle.std.proofs.Common.{◌∙◌, ⊎_elim, eq-or-lt_of_le, add-one, arith}
 use Rattle.lists.specs.Choices.{chosen}
 use Rattle.lists.specs.Order.{lists}
 use Rattle.lists.proofs.Choices.{chosen_more, chosen-same}
@@ -11,7 +12,8 @@ chosen-rest f b zero h g = let e : b ≡ 0 = omega arith in rw e
 chosen-rest f b (suc n) h g =
     ⊎_elim
     (λ (e : b ≡ suc n). rw e)
-    (λ (l : b < suc n). (rw (← (add-one n)) (chosen-same n f (g n (omega arith) (omega arith)))) ∙ chosen-rest f b n (omega arith) (λ m o q. g m o (omega arith)))
+    (λ (l : b < suc n). (rw (← (add-one n)) (chosen-same n f (g n (omega arith) (omega arith)))) ∙
+    chosen-rest f b n (omega arith) (λ m o q. g m o (omega arith)))
     (eq-or-lt_of_le h)
 
 -- and then it holds

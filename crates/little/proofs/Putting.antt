@@ -55,7 +55,8 @@ putting_turn {out = out} {rest = rest} {left = left} {i = i} w h =
           (ap (sets out i) (sym (bytes_one (left - 1) rest) ∙ ap (λ (j : ℕ). bytes j rest) m) ∙ w.is);
     }
 
-pub putting_done : {old : List ℕ} {at k x : ℕ} {out : List ℕ} {rest left i : ℕ} → Putting old at k x out rest left i → (left ≤ 0) ⊎ (length out ≤ i) → out ≡ sets old at (bytes k x)
+pub putting_done : {old : List ℕ} {at k x : ℕ} {out : List ℕ} {rest left i : ℕ} → Putting old at k x out rest left i → (left ≤ 0) ⊎ (length out ≤ i)
+    → out ≡ sets old at (bytes k x)
 putting_done {out = out} {rest = rest} {left = left} {i = i} w h = sym none ∙ w.is
   where
     none : sets out i (bytes left rest) ≡ out

@@ -54,5 +54,6 @@ two_are s at e f = let g = two (drop at s) in let g1 = rw (drop-drop 1 at s) at 
 pub four_are : (s : List ℕ) (at : ℕ) {a b : ℕ} → a ≡ little 2 (drop at s) → b ≡ little 2 (drop (at + 2) s) → a + 65536 * b ≡ little 4 (drop at s)
 four_are s at e f = let g = four (drop at s) in let g1 = rw (drop-drop 2 at s) at g in omega (arith, g1, e, f)
 
-pub eight_are : (s : List ℕ) (at : ℕ) {a b : ℕ} → a ≡ little 4 (drop at s) → b ≡ little 4 (drop (at + 4) s) → a + 4294967296 * b ≡ little 8 (drop at s)
+pub eight_are : (s : List ℕ) (at : ℕ) {a b : ℕ} → a ≡ little 4 (drop at s) → b ≡ little 4 (drop (at + 4) s) → a + 4294967296 * b
+    ≡ little 8 (drop at s)
 eight_are s at e f = let g = eight (drop at s) in let g1 = rw (drop-drop 4 at s) at g in omega (arith, g1, e, f)

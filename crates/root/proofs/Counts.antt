@@ -1,7 +1,8 @@
 -- A finite value counted in smallest values, 2 ^ -1074, and the root of a value by its count. Assumes nothing.
 use mathlib.Core.Path.{◌≡◌, refl, sym, ap, ◌∙◌, subst}
 use Prim.Native.Nat.{ℕ, zero, suc, ◌+◌, ◌-◌, ◌*◌, ◌/◌, ◌%◌, ◌^◌, ◌≤◌, ◌<◌}
-use native.Mathlib.Nat.{lt_irrefl, lt_of_le_of_lt, le_antisymm, zero-mul, mul-one, mul_assoc, mul_comm, mul_right_comm, mul-le-mul_right, le_of_mul-le-mul_right, lt_of_mul-lt-mul_right, mul-lt-mul_of_pos_right, mul-pos, mul-div_cancel}
+use native.Mathlib.Nat.{lt_irrefl, lt_of_le_of_lt, le_antisymm, zero-mul, mul-one, mul_assoc, mul_comm, mul_right_comm, mul-le-mul_right}
+use native.Mathlib.Nat.{le_of_mul-le-mul_right, lt_of_mul-lt-mul_right, mul-lt-mul_of_pos_right, mul-pos, mul-div_cancel}
 use native.Mathlib.Omega.{arith}
 use mathlib.Core.Bool.{Bool, true, false, cond, ◌&&◌, true≢false}
 use lib.IntN.{ℤ, pos, negsuc}
@@ -45,25 +46,43 @@ pub record Shifted (x : Float) (d j : ℕ) : Type 0 where
   pub is : count x ≡ d * 2 ^ j
 
 placed : (s : Bool) (m : ℕ) (e : ℤ) → down e ≤ 2 ^ 1074 → (j : ℕ) × HasValue (fin s m e) s (m * 2 ^ j) (2 ^ 1074)
-placed s m (pos a) h = (a + 1074, (refl, mul_assoc m (2 ^ a) (2 ^ 1074) ∙ ap (λ (v : ℕ). m * v) (sym (pow-add 2 a 1074)) ∙ sym (mul-one (m * 2 ^ (a + 1074)))))
+placed s m (pos a) h = (
+  a + 1074,
+  (
+    refl,
+    mul_assoc m (2 ^ a) (2 ^ 1074) ∙ ap (λ (v : ℕ). m * v) (sym (pow-add 2 a 1074)) ∙
+        sym (mul-one (m * 2 ^ (a + 1074))),
+  ),
+)
 placed s m (negsuc a) h =
     let l : suc a ≤ 1074 = pow_le_back (suc a) 1074 h in
     (1074 - suc a, (refl, shift m 0 1074 (1074 - suc a) (suc a) (omega arith)))
 
-bounds : (s : Bool) (m : ℕ) (e : ℤ) → T (fits binary64 (fin s (suc m) e)) → (suc m < 2 ^ 53) × (down e ≤ 2 ^ 1074) × (suc m * up e < 2 ^ 1024 * down e)
+bounds : (s : Bool) (m : ℕ) (e : ℤ) → T (fits binary64 (fin s (suc m) e)) → (suc m < 2 ^ 53) × (down e ≤ 2 ^ 1074) ×
+    (suc m * up e < 2 ^ 1024 * down e)
 unfolding fits
 bounds s m e h =
     let A = eqb (suc m % 2) 1 in
     let B = ltb (suc m) (2 ^ 53) in
     let C = leb (down e) (2 ^ 1074) in
     let D = ltb (suc m * up e) (2 ^ 1024 * down e) in
-    let t = and_l (A && B && C) D h in
-    (ltb→lt (suc m) (2 ^ 53) (and_r A B (and_l (A && B) C t)), leb→le (down e) (2 ^ 1074) (and_r (A && B) C t), ltb→lt (suc m * up e) (2 ^ 1024 * down e) (and_r (A && B && C) D h))
+    let t = and_l (A && B && C) D h in (
+      ltb→lt (suc m) (2 ^ 53) (and_r A B (and_l (A && B) C t)),
+      leb→le (down e) (2 ^ 1074) (and_r (A && B) C t),
+      ltb→lt (suc m * up e) (2 ^ 1024 * down e) (and_r (A && B && C) D h),
+    )
 
 pub shifted : (x : Float) → T (fits binary64 x) → (d : ℕ) × (j : ℕ) × Shifted x d j
 shifted nan h = (0, 0, record { digits = pow_pos 53; is = refl })
 shifted (inf s) h = (0, 0, record { digits = pow_pos 53; is = refl })
-shifted (fin s zero e) h = (0, 0, record { digits = pow_pos 53; is = count_of (fin s 0 e) s 0 (refl, rw (zero-mul (up e), zero-mul (2 ^ 1074), zero-mul (down e))) })
+shifted (fin s zero e) h = (
+  0,
+  0,
+  record {
+    digits = pow_pos 53;
+    is = count_of (fin s 0 e) s 0 (refl, rw (zero-mul (up e), zero-mul (2 ^ 1074), zero-mul (down e)));
+  },
+)
 shifted (fin s (suc m) e) h =
     let b = bounds s m e h in
     let p = placed s (suc m) e b.1 in
@@ -87,7 +106,8 @@ count-lt (fin false zero e) h p = absurd p
 count-lt (fin false (suc m) e) h p =
     lt_of_mul-lt-mul_right (down e)
     (subst (λ (v : ℕ). v < 2 ^ 2098 * down e) (value (fin false (suc m) e) h p).1
-    (subst (λ (v : ℕ). suc m * up e * 2 ^ 1074 < v) (mul_right_comm (2 ^ 1024) (down e) (2 ^ 1074)) (mul-lt-mul_of_pos_right {k = 2 ^ 1074} (bounds false m e h).2 (pow_pos 1074))))
+    (subst (λ (v : ℕ). suc m * up e * 2 ^ 1074 < v) (mul_right_comm (2 ^ 1024) (down e) (2 ^ 1074))
+    (mul-lt-mul_of_pos_right {k = 2 ^ 1074} (bounds false m e h).2 (pow_pos 1074))))
 
 -- ---- the root of a value by its count
 
@@ -144,14 +164,18 @@ minus_same a b c = go (leb b a) refl
 odd_same : (d : ℕ) (s : Bool) (q k l c : ℕ) → odd d s q k l ≡ odd d s q (k + c) (l + c)
 unfolding odd
 odd_same d s zero k l c = refl
-odd_same d s (suc q) k l c = ap (fin s (suc q / 2 ^ count_trailing_zeros d (suc q))) (minus_same (k + count_trailing_zeros d (suc q)) l c ∙ ap (λ (n : ℕ). minus n (l + c)) (omega arith))
+odd_same d s (suc q) k l c = ap (fin s (suc q / 2 ^ count_trailing_zeros d (suc q))) (minus_same (k + count_trailing_zeros d (suc q)) l c ∙
+    ap (λ (n : ℕ). minus n (l + c)) (omega arith))
 
 module _ (n i M : ℕ) (t : Scaled n i M) where
   pub least : 2 ^ 52 ≤ M
-  least = le_of_mul-le-mul_right {k = 2 ^ i} (subst (λ (v : ℕ). 2 ^ 52 * 2 ^ i ≤ v) t.is (subst (λ (v : ℕ). v ≤ n * 2 ^ 52) (mul_comm (2 ^ i) (2 ^ 52)) (mul-le-mul_right (2 ^ 52) t.low))) (pow_pos i)
+  least = le_of_mul-le-mul_right {k = 2 ^ i}
+      (subst (λ (v : ℕ). 2 ^ 52 * 2 ^ i ≤ v) t.is (subst (λ (v : ℕ). v ≤ n * 2 ^ 52) (mul_comm (2 ^ i) (2 ^ 52)) (mul-le-mul_right (2 ^ 52) t.low)))
+      (pow_pos i)
 
   pub most : M < 2 ^ 53
-  most = lt_of_mul-lt-mul_right (2 ^ i) (subst (λ (v : ℕ). v < 2 ^ 53 * 2 ^ i) t.is (subst (λ (v : ℕ). n * 2 ^ 52 < v) (shift 1 (suc i) 52 53 i (omega arith)) (omega (arith, t.high))))
+  most = lt_of_mul-lt-mul_right (2 ^ i) (subst (λ (v : ℕ). v < 2 ^ 53 * 2 ^ i) t.is
+      (subst (λ (v : ℕ). n * 2 ^ 52 < v) (shift 1 (suc i) 52 53 i (omega arith)) (omega (arith, t.high))))
 
   place : size n - 1 ≡ i
   place = omega (arith, size_exact i n t.low t.high)
@@ -169,5 +193,6 @@ positive_root-is n i M t =
     root_def n
     ∙ ap (root_at n) (place n i M t)
     ∙ at_def n i
-    ∙ ap (λ (m : ℕ). odd 53 false (rounded m) (i / 2) 589) (ap (λ (k : ℕ). radicand k i) (ap (λ (v : ℕ). v / 2 ^ i) t.is ∙ mul-div_cancel M (pow_pos i)) ∙ radicand-is M i)
+    ∙ ap (λ (m : ℕ). odd 53 false (rounded m) (i / 2) 589)
+    (ap (λ (k : ℕ). radicand k i) (ap (λ (v : ℕ). v / 2 ^ i) t.is ∙ mul-div_cancel M (pow_pos i)) ∙ radicand-is M i)
     ∙ odd_same 53 false (rounded (under_root M i)) (i / 2) 589 485

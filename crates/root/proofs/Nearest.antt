@@ -3,7 +3,8 @@
 use mathlib.Core.Path.{◌≡◌, refl, sym, ap, ◌∙◌, subst}
 use mathlib.Core.Logic.{◌⊎◌, inl, inr}
 use Prim.Native.Nat.{ℕ, zero, suc, ◌+◌, ◌-◌, ◌*◌, ◌/◌, ◌%◌, ◌^◌, ◌≤◌, ◌<◌}
-use native.Mathlib.Nat.{lt_of_not-le, lt_irrefl, lt_of_lt_of_le, lt_of_le_of_lt, le_antisymm, eq-or-lt_of_le, add-mul, mul-add, mul-one, mul_assoc, mul-mul-mul_comm, mul-pos, mul-le-mul, mul-le-mul_right, mul-lt-mul_of_pos_right, lt_of_mul-lt-mul_right, pow-suc}
+use native.Mathlib.Nat.{lt_of_not-le, lt_irrefl, lt_of_lt_of_le, lt_of_le_of_lt, le_antisymm, eq-or-lt_of_le, add-mul, mul-add, mul-one, mul_assoc}
+use native.Mathlib.Nat.{mul-mul-mul_comm, mul-pos, mul-le-mul, mul-le-mul_right, mul-lt-mul_of_pos_right, lt_of_mul-lt-mul_right, pow-suc}
 use native.Mathlib.Omega.{arith}
 use mathlib.Core.Bool.{Bool, true, false, cond}
 use lib.Dec.{T, leb}
@@ -110,7 +111,8 @@ pub rounded_of : {m q : ℕ} → m < 2 ^ 106 → Largest m q → nearer m q ≡ 
 rounded_of {m} {q} h l = ap (nearer m) (only l (largest 53 m h)) ∙ sym (rounded-is m)
 
 pub rounded-range : (m : ℕ) → 2 ^ 104 ≤ m → m + 2 ^ 53 ≤ 2 ^ 106 → (2 ^ 52 ≤ rounded m) × (rounded m < 2 ^ 53)
-rounded-range m l h = subst (λ (r : ℕ). (2 ^ 52 ≤ r) × (r < 2 ^ 53)) (sym (rounded-is m)) (in-range m (whole_root 53 m) (largest 53 m (omega arith)) l h)
+rounded-range m l h = subst (λ (r : ℕ). (2 ^ 52 ≤ r) × (r < 2 ^ 53)) (sym (rounded-is m))
+    (in-range m (whole_root 53 m) (largest 53 m (omega arith)) l h)
 
 pub rounded_near : (m : ℕ) → 0 < m → m < 2 ^ 106 → Near m (rounded m)
 rounded_near m p h = subst (Near m) (sym (rounded-is m)) (near m (whole_root 53 m) (largest 53 m h) p)
@@ -124,11 +126,15 @@ once-or-twice M (suc (suc r)) h = absurd (lt_irrefl 2 (omega arith))
 
 -- 2 ^ 52 ≤ M · 2^r ≤ 2 ^ 54 - 2
 pub wide : (n i M : ℕ) → Scaled n i M → (2 ^ 52 ≤ M * 2 ^ (i % 2)) × (M * 2 ^ (i % 2) + 2 ≤ 2 ^ 54)
-wide n i M t = (omega (arith, least n i M t, once-or-twice M (i % 2) (omega arith)), omega (arith, most n i M t, once-or-twice M (i % 2) (omega arith)))
+wide n i M t = (
+  omega (arith, least n i M t, once-or-twice M (i % 2) (omega arith)),
+  omega (arith, most n i M t, once-or-twice M (i % 2) (omega arith)),
+)
 
 four_is : (k : ℕ) → 4 ^ k ≡ 2 ^ k * 2 ^ k
 four_is zero = refl
-four_is (suc k) = pow-suc 4 k ∙ ap (λ (v : ℕ). v * 4) (four_is k) ∙ sym (mul-mul-mul_comm (2 ^ k) 2 (2 ^ k) 2) ∙ ap (λ (v : ℕ). v * v) (sym (pow-suc 2 k))
+four_is (suc k) = pow-suc 4 k ∙ ap (λ (v : ℕ). v * 4) (four_is k) ∙ sym (mul-mul-mul_comm (2 ^ k) 2 (2 ^ k) 2) ∙
+    ap (λ (v : ℕ). v * v) (sym (pow-suc 2 k))
 
 -- n · 2^1074 = m · 4^k
 input_is : (n i M : ℕ) → n * 2 ^ 52 ≡ M * 2 ^ i → n * 2 ^ 1074 ≡ under_root M i * 4 ^ (i / 2 + 485)
@@ -172,7 +178,8 @@ scaled x f p =
 
 -- below a significand of 53 digits at place k stands all that has 53 digits at a lower place
 lower : (d j k : ℕ) → d < 2 ^ 53 → j < k → d * 2 ^ j < 2 ^ 52 * 2 ^ k
-lower d j k h l = lt_of_lt_of_le (shl_lt 53 j h) (subst (λ (v : ℕ). 2 ^ (53 + j) ≤ v) (pow-add 2 52 k) (pow_mono {i = 53 + j} {j = 52 + k} (omega arith)))
+lower d j k h l = lt_of_lt_of_le (shl_lt 53 j h)
+    (subst (λ (v : ℕ). 2 ^ (53 + j) ≤ v) (pow-add 2 52 k) (pow_mono {i = 53 + j} {j = 52 + k} (omega arith)))
 
 -- d · 2^j at place k
 at_place : (d j k : ℕ) → k ≤ j → d * 2 ^ j ≡ d * 2 ^ (j - k) * 2 ^ k
@@ -201,7 +208,12 @@ module _ (a d j k : ℕ) (l : 2 ^ 52 ≤ a) (h : d < 2 ^ 53) where
           let c : d * 2 ^ (j - k) < a = lt_of_mul-lt-mul_right (2 ^ k) (subst (λ (v : ℕ). v < a * 2 ^ k) p g) in
           inl (omega (arith, p, add-mul (d * 2 ^ (j - k)) 1 (2 ^ k), mul-le-mul_right {m = d * 2 ^ (j - k) + 1} {n = a} (2 ^ k) (omega arith)))
       go false e (inl o) = inr o
-      go false e (inr o) = inl (omega (arith, lower d j k h (leb-false k j e), add-mul (2 ^ 52) 1 (2 ^ k), mul-le-mul_right {m = 2 ^ 52 + 1} {n = a} (2 ^ k) (omega arith)))
+      go false e (inr o) = inl (omega (
+        arith,
+        lower d j k h (leb-false k j e),
+        add-mul (2 ^ 52) 1 (2 ^ k),
+        mul-le-mul_right {m = 2 ^ 52 + 1} {n = a} (2 ^ k) (omega arith),
+      ))
 
 -- in units of P = 2 ^ k: y is at or beyond the neighbour of a
 module _ (m a P y : ℕ) (p : 0 < P) (n : Near m a) where
@@ -267,7 +279,8 @@ module _ (x r : Float) (m q a k : ℕ) (t : Significands x r m q a k) (l : 2 ^ 1
     where
       go : (s : (d : ℕ) × (j : ℕ) × Shifted y d j) → count y < a * 2 ^ k → (s.0 * 2 ^ s.1 + 2 ^ k ≤ a * 2 ^ k) ⊎ (2 ^ 52 ≡ a)
           → (a * 2 ^ k + count y) * (a * 2 ^ k + count y) < 4 * (m * (2 ^ k * 2 ^ k))
-      go s h (inl g) = halfway_below m a (2 ^ k) (count y) (pow_pos k) near_digits (omega (arith, t.least)) (subst (λ (v : ℕ). v + 2 ^ k ≤ a * 2 ^ k) (sym s.2.is) g)
+      go s h (inl g) = halfway_below m a (2 ^ k) (count y) (pow_pos k) near_digits (omega (arith, t.least))
+          (subst (λ (v : ℕ). v + 2 ^ k ≤ a * 2 ^ k) (sym s.2.is) g)
       go s h (inr e) = least_below m a (2 ^ k) (count y) (subst (λ (v : ℕ). v * v ≤ m) e l) h
 
   closest : T (positive r) → Closest x r
@@ -316,7 +329,8 @@ root_nearest x f p =
     let a = rounded m in
     let k = i / 2 + 485 in
     let n = rounded_near m (omega (arith, t.low)) (omega (arith, t.high)) in
-    let o : HasValue (root_of x) false (a * 2 ^ k) (2 ^ 1074) = subst (λ (r : Float). HasValue r false (a * 2 ^ k) (2 ^ 1074)) (sym t.is) (odd_sign 53 false a k 1074) in
+    let o : HasValue (root_of x) false (a * 2 ^ k) (2 ^ 1074) = subst (λ (r : Float). HasValue r false (a * 2 ^ k) (2 ^ 1074)) (sym t.is)
+    (odd_sign 53 false a k 1074) in
     closest x (root_of x) m (whole_root 53 m) a k
     (record {
       input = input_is (count x) i w.1 t.scaling.is;

@@ -22,11 +22,13 @@ use Rattle.root.proofs.Nearest.{worked, root_nearest}
 
 -- ---- the fields of a pattern
 
-fields : (b : ℕ) → of_bits binary64 b ≡ of_fields binary64 (leb 0x8000_0000_0000_0000 b) (b % 0x8000_0000_0000_0000 / 0x10_0000_0000_0000) (b % 0x10_0000_0000_0000)
+fields : (b : ℕ) → of_bits binary64 b ≡ of_fields binary64 (leb 0x8000_0000_0000_0000 b) (b % 0x8000_0000_0000_0000 / 0x10_0000_0000_0000)
+    (b % 0x10_0000_0000_0000)
 unfolding of_bits
 fields b = refl
 
-pattern : (b x t : ℕ) (s : Bool) → leb 0x8000_0000_0000_0000 b ≡ s → b % 0x8000_0000_0000_0000 / 0x10_0000_0000_0000 ≡ x → b % 0x10_0000_0000_0000 ≡ t → of_bits binary64 b ≡ of_fields binary64 s x t
+pattern : (b x t : ℕ) (s : Bool) → leb 0x8000_0000_0000_0000 b ≡ s → b % 0x8000_0000_0000_0000 / 0x10_0000_0000_0000 ≡ x → b % 0x10_0000_0000_0000
+    ≡ t → of_bits binary64 b ≡ of_fields binary64 s x t
 pattern b x t s p q r = fields b ∙ rw (p, q, r)
 
 subnormal : (s : Bool) (t : ℕ) → of_fields binary64 s 0 t ≡ odd 53 s t 0 1074
@@ -49,11 +51,13 @@ root-bits-is b = refl
 
 from_odd : (b u y : ℕ) → of_bits binary64 b ≡ odd 53 false u y 1074 → 0 < u → to_bits binary64 (positive_root (u * 2 ^ y)) ≡ root_bits b
 from_odd b u y e p =
-    sym (root-bits-is b ∙ ap (λ (v : Float). to_bits binary64 (root_of v)) e ∙ ap (to_bits binary64) (root_of_lem (odd 53 false u y 1074) (u * 2 ^ y) (odd_sign 53 false u y 1074) (mul-pos p (pow_pos y))))
+    sym (root-bits-is b ∙ ap (λ (v : Float). to_bits binary64 (root_of v)) e ∙
+    ap (to_bits binary64) (root_of_lem (odd 53 false u y 1074) (u * 2 ^ y) (odd_sign 53 false u y 1074) (mul-pos p (pow_pos y))))
 
 pub root_subnormal : (b : ℕ) → 0 < b → b < 0x10_0000_0000_0000 → to_bits binary64 (positive_root (b % 0x10_0000_0000_0000 * 2 ^ 0)) ≡ root_bits b
 root_subnormal b p h =
-    from_odd b (b % 0x10_0000_0000_0000) 0 (pattern b 0 (b % 0x10_0000_0000_0000) false (lt-leb 0x8000_0000_0000_0000 b (omega arith)) (omega arith) refl ∙ subnormal false (b % 0x10_0000_0000_0000)) (omega arith)
+    from_odd b (b % 0x10_0000_0000_0000) 0 (pattern b 0 (b % 0x10_0000_0000_0000) false (lt-leb 0x8000_0000_0000_0000 b (omega arith)) (omega arith)
+    refl ∙ subnormal false (b % 0x10_0000_0000_0000)) (omega arith)
 
 pub root_normal : (b : ℕ) → 0x10_0000_0000_0000 ≤ b → b < 0x7FF0_0000_0000_0000
     → to_bits binary64 (positive_root ((b % 0x10_0000_0000_0000 + 0x10_0000_0000_0000) * 2 ^ (b / 0x10_0000_0000_0000 - 1))) ≡ root_bits b
@@ -61,7 +65,8 @@ root_normal b l h =
     let x = b / 0x10_0000_0000_0000 - 1 in
     let t = b % 0x10_0000_0000_0000 in
     from_odd b (t + 0x10_0000_0000_0000) x
-    (pattern b (suc x) t false (lt-leb 0x8000_0000_0000_0000 b (omega arith)) (omega arith) refl ∙ normal false x t (omega arith) ∙ ap (λ (n : ℕ). odd 53 false n x 1074) (add_comm 0x10_0000_0000_0000 t))
+    (pattern b (suc x) t false (lt-leb 0x8000_0000_0000_0000 b (omega arith)) (omega arith) refl ∙ normal false x t (omega arith) ∙
+    ap (λ (n : ℕ). odd 53 false n x 1074) (add_comm 0x10_0000_0000_0000 t))
     (omega arith)
 
 -- ---- the pattern of a significand a of 53 digits at place f
@@ -119,7 +124,8 @@ none b e = sym (root-bits-is b ∙ ap (to_bits binary64) e ∙ nan_bits)
 pub nan_none : (b : ℕ) → 0x7FF0_0000_0000_0000 < b % 0x8000_0000_0000_0000 → 0x7FF8_0000_0000_0000 ≡ root_bits b
 nan_none b h =
     none b
-    (ap root_of (is_nan_lem (of_bits binary64 b) (sym (nan_bits_is binary64 b) ∙ nan_bits_above binary64 b ∙ lt-ltb 0x7FF0_0000_0000_0000 (b % 0x8000_0000_0000_0000) h)) ∙ no_root)
+    (ap root_of (is_nan_lem (of_bits binary64 b) (sym (nan_bits_is binary64 b) ∙ nan_bits_above binary64 b ∙
+    lt-ltb 0x7FF0_0000_0000_0000 (b % 0x8000_0000_0000_0000) h)) ∙ no_root)
 
 negative_top : (t : Bool) → root_of (cond t (inf true) nan) ≡ nan
 unfolding root_of
@@ -140,7 +146,8 @@ negative_fields (suc x) t h p = go (eq-or-lt_of_le h)
 pub negative_none : (b : ℕ) → b < 2 ^ 64 → 0x8000_0000_0000_0000 < b → 0x7FF8_0000_0000_0000 ≡ root_bits b
 negative_none b h l =
     none b
-    (ap root_of (pattern b (b % 0x8000_0000_0000_0000 / 0x10_0000_0000_0000) (b % 0x10_0000_0000_0000) true (le-leb 0x8000_0000_0000_0000 b (omega arith)) refl refl)
+    (ap root_of (pattern b (b % 0x8000_0000_0000_0000 / 0x10_0000_0000_0000) (b % 0x10_0000_0000_0000) true
+    (le-leb 0x8000_0000_0000_0000 b (omega arith)) refl refl)
     ∙ negative_fields (b % 0x8000_0000_0000_0000 / 0x10_0000_0000_0000) (b % 0x10_0000_0000_0000) (omega arith) (omega arith))
 
 patterns : (b : ℕ) → b < 2 ^ 64 → Patterns b (root_bits b)
@@ -160,7 +167,8 @@ positive_fits x f p =
     let k = w.0 / 2 + 485 in
     let h : w.0 < 2098 = pow-back w.0 2098 (lt_of_le_of_lt t.scaling.low (count-lt x f p)) in
     subst (λ (r : Float). T (fits binary64 r)) (sym t.is)
-    (odd-fits binary64 53 false (rounded (under_root w.1 w.0)) k t.range.1 (omega (arith, t.range)) (lt_of_lt_of_le (shl_lt 53 k t.range.1) (pow_mono {i = 53 + k} {j = 2098} (omega arith))))
+    (odd-fits binary64 53 false (rounded (under_root w.1 w.0)) k t.range.1 (omega (arith, t.range))
+    (lt_of_lt_of_le (shl_lt 53 k t.range.1) (pow_mono {i = 53 + k} {j = 2098} (omega arith))))
 
 pub root-fits : (x : Float) → T (fits binary64 x) → T (fits binary64 (root_of x))
 unfolding root_of
@@ -174,7 +182,8 @@ root-fits (fin false (suc m) e) f = positive_fits (fin false (suc m) e) f (lt→
 -- ---- what is said of the answer, from what it is
 
 back : (b r : ℕ) → r ≡ root_bits b → of_bits binary64 r ≡ root_of (of_bits binary64 b)
-back b r e = ap (of_bits binary64) (e ∙ root-bits-is b) ∙ of_bits-to_bits binary64 (root_of (of_bits binary64 b)) (root-fits (of_bits binary64 b) (of_bits-fits binary64 b))
+back b r e = ap (of_bits binary64) (e ∙ root-bits-is b) ∙ of_bits-to_bits binary64 (root_of (of_bits binary64 b))
+    (root-fits (of_bits binary64 b) (of_bits-fits binary64 b))
 
 pub answers : (b r : ℕ) → b < 2 ^ 64 → r ≡ root_bits b → (r ≡ root_bits b) × Patterns b r × Nearest (of_bits binary64 b) (of_bits binary64 r)
 answers b r h e = (

@@ -32,11 +32,13 @@ pub record Ready (u x : ℕ) : Type 0 where
 
 module _ (u x : ℕ) (some : 0 < u) (short : u < 2 ^ 53) (first : 1 ≤ x) (last : x ≤ 2046) where
   -- j is the place of u's top bit
-  scaled-up : (j : ℕ) → count_leading_zeros 64 u + suc j ≡ 64 → j < 53 → 2 ^ j ≤ u → u < 2 ^ suc j → Scaled (u * 2 ^ (x - 1)) (place u x) (significand_of u)
+  scaled-up : (j : ℕ) → count_leading_zeros 64 u + suc j ≡ 64 → j < 53 → 2 ^ j ≤ u → u < 2 ^ suc j →
+      Scaled (u * 2 ^ (x - 1)) (place u x) (significand_of u)
   scaled-up j e h lo hi =
       let i : j + (x - 1) ≡ place u x = omega arith in
       record {
-        low = subst (λ (k : ℕ). 2 ^ k ≤ u * 2 ^ (x - 1)) i (subst (λ (v : ℕ). v ≤ u * 2 ^ (x - 1)) (sym (pow-add 2 j (x - 1))) (mul-le-mul_right (2 ^ (x - 1)) lo));
+        low = subst (λ (k : ℕ). 2 ^ k ≤ u * 2 ^ (x - 1)) i (subst (λ (v : ℕ). v ≤ u * 2 ^ (x - 1)) (sym (pow-add 2 j (x - 1)))
+            (mul-le-mul_right (2 ^ (x - 1)) lo));
         high = subst (λ (k : ℕ). u * 2 ^ (x - 1) < 2 ^ k) (omega arith) (shl_lt (suc j) (x - 1) hi);
         is = shift u (x - 1) 52 (count_leading_zeros 64 u - 11) (place u x) (omega arith);
       }

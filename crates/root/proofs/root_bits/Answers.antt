@@ -7,7 +7,8 @@ pub returns-then-b-eq0 : goal.returns-then-b-eq0
 returns-then-b-eq0 c = let b = c.args.b in answers b b (omega arith) (zero-self b (omega arith) (omega arith))
 
 pub returns-then-b-gt9223372036854775808 : goal.returns-then-b-gt9223372036854775808
-returns-then-b-gt9223372036854775808 c = let b = c.args.b in answers b 0x7FF8_0000_0000_0000 (omega arith) (negative_none b (omega arith) (omega arith))
+returns-then-b-gt9223372036854775808 c = let b = c.args.b in
+    answers b 0x7FF8_0000_0000_0000 (omega arith) (negative_none b (omega arith) (omega arith))
 
 pub returns-then-b-gt9218868437227405312 : goal.returns-then-b-gt9218868437227405312
 returns-then-b-gt9218868437227405312 c = let b = c.args.b in answers b 0x7FF8_0000_0000_0000 (omega arith) (nan_none b (omega arith))

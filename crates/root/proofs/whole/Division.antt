@@ -88,7 +88,8 @@ module _ {a s : ℕ} (low : 2 ^ 52 ≤ a) (high : a + 2 ≤ 2 ^ 54) (l : Largest
       let f : root * root ≡ p * p + 2 * p + 1 = ap (λ (x : ℕ). x * x) (sym e) ∙ sq_suc p in
       let o : root ≡ p + 1 = sym e in
       let b : q * q < root = omega (arith, qq_by, q_most, s_least) in
-      let g : nearer (a * 2 ^ 52) p ≡ rounded (a * 2 ^ 52) = rounded_of (omega arith) (is_largest {m = a * 2 ^ 52} {q = p} (omega (arith, sides, f, b)) (omega (arith, sides, f, sq_suc p))) in
+      let g : nearer (a * 2 ^ 52) p ≡ rounded (a * 2 ^ 52) =
+      rounded_of (omega arith) (is_largest {m = a * 2 ^ 52} {q = p} (omega (arith, sides, f, b)) (omega (arith, sides, f, sq_suc p))) in
       o ∙ (rw (lt-leb (a * 2 ^ 52) (p * p + p) (omega (arith, sides, f, b))) at g)
 
   pub rounds_here : left ≤ root + q * q → root ≡ rounded (a * 2 ^ 52)

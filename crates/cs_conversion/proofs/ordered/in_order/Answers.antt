@@ -38,7 +38,11 @@ pub overflow_add-cols : goal.overflow_add-cols
 overflow_add-cols c = omega (arith, here_small c.loop-k.invariant c.loop-k-test.true)
 
 pub loop-k-preserved : goal.loop-k-preserved
-loop-k-preserved c = elim c.if-cols-k.branch [ then-cols-k t ↦ rw t.bad-is (watching_falls c.loop-k.invariant c.loop-k-test.true) | else-cols-k t ↦ rw t.bad-is (watching_turn c.loop-k.invariant c.loop-k-test.true t.if-cols-k.false) ]
+loop-k-preserved c = elim c.if-cols-k.branch [
+  | then-cols-k t ↦ rw t.bad-is (watching_falls c.loop-k.invariant c.loop-k-test.true)
+  | else-cols-k t ↦
+      rw t.bad-is (watching_turn c.loop-k.invariant c.loop-k-test.true t.if-cols-k.false)
+]
 
 pub returns : goal.returns
 returns c = λ e. watching_done c.loop-k.invariant c.loop-k-test.false e

@@ -11,7 +11,10 @@ pub loop-k-smaller : goal.loop-k-smaller
 loop-k-smaller c = omega (arith, c.loop-k.invariant.long, c.loop-k-test.true)
 
 pub loop-k-preserved : goal.loop-k-preserved
-loop-k-preserved c = elim c.if-high-x.branch [ then-high-x t ↦ rw t.high-is (raising_higher c.loop-k.invariant c.loop-k-test.true t.if-high-x.true) | else-high-x t ↦ rw t.high-is (raising_same c.loop-k.invariant c.loop-k-test.true t.if-high-x.false) ]
+loop-k-preserved c = elim c.if-high-x.branch [
+  | then-high-x t ↦ rw t.high-is (raising_higher c.loop-k.invariant c.loop-k-test.true t.if-high-x.true)
+  | else-high-x t ↦ rw t.high-is (raising_same c.loop-k.invariant c.loop-k-test.true t.if-high-x.false)
+]
 
 pub shape_of-p : goal.shape_of-p
 shape_of-p c = c.loop-k.invariant.long

@@ -14,7 +14,8 @@ pub bounds-x-z : goal.bounds-x-z
 bounds-x-z c = passing_row c.loop-q.invariant c.loop-q-test.true c.wide-z.ensures.0
 
 pub loop-q-preserved : goal.loop-q-preserved
-loop-q-preserved c = let w = c.loop-q.invariant in let g = c.loop-q-test.true in let e = c.wide-z.ensures.0 in elim c.if-z-k.branch [ then-z-k t ↦ rw t.x-is (load_put w g e t.if-z-k.true) | else-z-k u ↦ rw u.x-is (load_pass w g e u.if-z-k.false) ]
+loop-q-preserved c = let w = c.loop-q.invariant in let g = c.loop-q-test.true in let e = c.wide-z.ensures.0 in
+    elim c.if-z-k.branch [ then-z-k t ↦ rw t.x-is (load_put w g e t.if-z-k.true) | else-z-k u ↦ rw u.x-is (load_pass w g e u.if-z-k.false) ]
 
 pub shape_of-x : goal.shape_of-x
 shape_of-x c = c.loop-q.invariant.long

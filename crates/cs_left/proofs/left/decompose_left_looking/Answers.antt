@@ -7,10 +7,14 @@ pub returns-then-number-ne0 : goal.returns-then-number-ne0
 returns-then-number-ne0 c = way-judged _ _ _ _ _ _ _ _ _ _ c.args.lx.now _ _ _ _ c.judge-number.ensures c.if-number-ne0.true c.refused.ensures
 
 pub strays-requires : goal.strays-requires
-strays-requires c = (strays_asks (way_served _ _ _ _ _ _ _ _ _ _ c.args.lx.now _ _ _ _ c.judge-number.ensures c.if-number-ne0.false), way_w2 _ _ _ _ _ _ _ _ _ _ c.args.lx.now _ _ _ _ c.judge-number.ensures c.if-number-ne0.false)
+strays-requires c = (
+  strays_asks (way_served _ _ _ _ _ _ _ _ _ _ c.args.lx.now _ _ _ _ c.judge-number.ensures c.if-number-ne0.false),
+  way_w2 _ _ _ _ _ _ _ _ _ _ c.args.lx.now _ _ _ _ c.judge-number.ensures c.if-number-ne0.false,
+)
 
 pub returns-then-strays : goal.returns-then-strays
-returns-then-strays c = way-stray _ _ _ _ _ _ _ _ _ _ c.args.lx.now _ _ _ _ c.judge-number.ensures c.if-number-ne0.false c.strays.ensures c.if-strays.true c.refused-then-strays.ensures
+returns-then-strays c = way-stray _ _ _ _ _ _ _ _ _ _ c.args.lx.now _ _ _ _ c.judge-number.ensures c.if-number-ne0.false c.strays.ensures
+    c.if-strays.true c.refused-then-strays.ensures
 
 pub slice_bounds-work-start : goal.slice_bounds-work-start
 slice_bounds-work-start c = omega arith
@@ -25,10 +29,16 @@ pub slice_bounds-work-end-2 : goal.slice_bounds-work-end-2
 slice_bounds-work-end-2 c = way_x _ _ _ _ _ _ _ _ _ _ c.args.lx.now _ _ _ _ c.judge-number.ensures c.if-number-ne0.false
 
 pub work-answer-requires : goal.work-answer-requires
-work-answer-requires c = way_asks _ _ _ _ _ _ _ _ _ _ c.args.lx.now _ _ _ _ c.judge-number.ensures c.if-number-ne0.false c.strays.ensures c.if-strays.false
+work-answer-requires c = way_asks _ _ _ _ _ _ _ _ _ _ c.args.lx.now _ _ _ _ c.judge-number.ensures c.if-number-ne0.false c.strays.ensures
+    c.if-strays.false
 
 pub overflow_add-ncols : goal.overflow_add-ncols
-overflow_add-ncols c = omega (arith, (way_served _ _ _ _ _ _ _ _ _ _ c.args.lx.now _ _ _ _ c.judge-number.ensures c.if-number-ne0.false).valid.pattern.cols)
+overflow_add-ncols c = omega (
+  arith,
+  (way_served _ _ _ _ _ _ _ _ _ _ c.args.lx.now _ _ _ _ c.judge-number.ensures
+      c.if-number-ne0.false).valid.pattern.cols,
+)
 
 pub returns : goal.returns
-returns c = way-done _ _ _ _ _ _ _ _ _ _ c.args.lx.now _ _ _ _ c.judge-number.ensures c.if-number-ne0.false c.strays.ensures c.if-strays.false c.work-answer.ensures c.work-answer.new.next c.work-answer.new.x c.work-answer.auto.next c.work-answer.auto.x c.clear_scratch.ensures
+returns c = way-done _ _ _ _ _ _ _ _ _ _ c.args.lx.now _ _ _ _ c.judge-number.ensures c.if-number-ne0.false c.strays.ensures c.if-strays.false
+    c.work-answer.ensures c.work-answer.new.next c.work-answer.new.x c.work-answer.auto.next c.work-answer.auto.x c.clear_scratch.ensures

@@ -20,10 +20,12 @@ pub shape_of-lx-then-not-pivot : goal.shape_of-lx-then-not-pivot
 shape_of-lx-then-not-pivot c = c.loop-k.invariant.lx_long
 
 pub returns-then-not-pivot : goal.returns-then-not-pivot
-returns-then-not-pivot c = state_stop c.requires.served c.requires.none_stray refl c.loop-k.invariant c.loop-k-test.true c.gather-pivot.auto.x c.gather-pivot.ensures (not-true _ c.if-not-pivot.true-raw)
+returns-then-not-pivot c = state_stop c.requires.served c.requires.none_stray refl c.loop-k.invariant c.loop-k-test.true c.gather-pivot.auto.x
+    c.gather-pivot.ensures (not-true _ c.if-not-pivot.true-raw)
 
 pub finish-requires : goal.finish-requires
-finish-requires c = state_finishes c.requires.served c.requires.none_stray refl c.loop-k.invariant c.loop-k-test.true c.gather-pivot.auto.x c.gather-pivot.ensures
+finish-requires c = state_finishes c.requires.served c.requires.none_stray refl c.loop-k.invariant c.loop-k-test.true c.gather-pivot.auto.x
+    c.gather-pivot.ensures
 
 pub overflow_add-k : goal.overflow_add-k
 overflow_add-k c = omega (arith, c.loop-k-test.true, c.requires.served.valid.pattern.cols)
@@ -32,7 +34,8 @@ pub loop-k-smaller : goal.loop-k-smaller
 loop-k-smaller c = omega (arith, c.loop-k-test.true)
 
 pub loop-k-preserved : goal.loop-k-preserved
-loop-k-preserved c = state_turn c.requires.served c.requires.none_stray refl c.loop-k.invariant c.loop-k-test.true c.gather-pivot.auto.x c.gather-pivot.ensures (not-false _ c.if-not-pivot.false-raw) c.root.ensures.0 c.finish.ensures
+loop-k-preserved c = state_turn c.requires.served c.requires.none_stray refl c.loop-k.invariant c.loop-k-test.true c.gather-pivot.auto.x
+    c.gather-pivot.ensures (not-false _ c.if-not-pivot.false-raw) c.root.ensures.0 c.finish.ensures
 
 pub shape_of-lx : goal.shape_of-lx
 shape_of-lx c = c.loop-k.invariant.lx_long

@@ -14,7 +14,8 @@ pub bounds-up-n : goal.bounds-up-n
 bounds-up-n c = omega (arith, c.requires.served.u_laid.pointed.long, c.requires.served.u_long)
 
 pub returns-then-answer-eq11 : goal.returns-then-answer-eq11
-returns-then-answer-eq11 c = work_blank c.requires.served _ _ c.factor-answer.ensures refl c.factor-answer.auto.lx c.if-answer-eq11.true c.wide.ensures.0 c.clear_values.ensures
+returns-then-answer-eq11 c = work_blank c.requires.served _ _ c.factor-answer.ensures refl c.factor-answer.auto.lx c.if-answer-eq11.true
+    c.wide.ensures.0 c.clear_values.ensures
 
 pub returns-else-answer-eq11 : goal.returns-else-answer-eq11
 returns-else-answer-eq11 c = work-whole c.requires.served _ _ c.factor-answer.ensures refl c.factor-answer.auto.lx c.if-answer-eq11.false

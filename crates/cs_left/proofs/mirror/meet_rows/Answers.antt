@@ -37,7 +37,8 @@ pub loop-q-smaller : goal.loop-q-smaller
 loop-q-smaller c = omega (arith, c.loop-q-test.true)
 
 pub loop-q-preserved : goal.loop-q-preserved
-loop-q-preserved c = walking_turn c.loop-q.invariant c.wide-e.ensures.0 c.loop-q-test.true c.wide-r.ensures.0 c.if-r-c.false c.meet.auto.next c.meet.ensures
+loop-q-preserved c = walking_turn c.loop-q.invariant c.wide-e.ensures.0 c.loop-q-test.true c.wide-r.ensures.0 c.if-r-c.false c.meet.auto.next
+    c.meet.ensures
 
 pub overflow_cast-result-2 : goal.overflow_cast-result-2
 overflow_cast-result-2 c = record { fits = omega (arith, c.loop-q.invariant.high, c.wide-e.ensures.0, c.wide-e.ensures.1) }

@@ -42,4 +42,5 @@ pub stray-requires : goal.stray-requires
 stray-requires c = stray_asks (seeks_both c.requires) c.requires.here c.wide-a.ensures.0 c.wide-e.ensures.0 c.wide-s.ensures.0 c.wide-f.ensures.0
 
 pub returns : goal.returns
-returns c = sym (stray_here (seeks_both c.requires) c.requires.here c.wide-a.ensures.0 c.wide-e.ensures.0 c.wide-s.ensures.0 c.wide-f.ensures.0 c.stray.ensures)
+returns c = sym (stray_here (seeks_both c.requires) c.requires.here c.wide-a.ensures.0 c.wide-e.ensures.0 c.wide-s.ensures.0 c.wide-f.ensures.0
+    c.stray.ensures)

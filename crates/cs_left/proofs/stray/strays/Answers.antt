@@ -17,4 +17,8 @@ pub overflow_add-n : goal.overflow_add-n
 overflow_add-n c = record { fits = omega (arith, c.requires.0.stored.few) }
 
 pub returns : goal.returns
-returns c = (c.seek-found.ensures, c.clear.ensures ∙ cleared-after 0 c.args.n (c.args.n + 1) c.args.w.now c.seek-found.new.next (omega arith) c.requires.1 (c.seek-found.auto.next ∙ part_long c.args.n c.args.w.now c.requires.1))
+returns c = (
+  c.seek-found.ensures,
+  c.clear.ensures ∙ cleared-after 0 c.args.n (c.args.n + 1) c.args.w.now c.seek-found.new.next (omega arith)
+      c.requires.1 (c.seek-found.auto.next ∙ part_long c.args.n c.args.w.now c.requires.1),
+)

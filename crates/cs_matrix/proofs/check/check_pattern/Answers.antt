@@ -14,19 +14,41 @@ pub returns-then-i-gt4194304 : goal.returns-then-i-gt4194304
 returns-then-i-gt4194304 c = refused-entries _ c.if-nrows-gt65535.false c.if-ncols-gt65535.false c.if-i-gt4194304.true
 
 pub returns-then-p-ncols : goal.returns-then-p-ncols
-returns-then-p-ncols c = refused_2 _ (record { rows = c.if-nrows-gt65535.false; cols = c.if-ncols-gt65535.false; entries = c.if-i-gt4194304.false }) c.if-p-ncols.true
+returns-then-p-ncols c = refused_2 _ (record { rows = c.if-nrows-gt65535.false; cols = c.if-ncols-gt65535.false; entries = c.if-i-gt4194304.false })
+    c.if-p-ncols.true
 
 pub returns-then-not-pointers_hold : goal.returns-then-not-pointers_hold
-returns-then-not-pointers_hold c = refused_3 _ (record { rows = c.if-nrows-gt65535.false; cols = c.if-ncols-gt65535.false; entries = c.if-i-gt4194304.false }) c.if-p-ncols.false (failed c.pointers_hold.ensures c.if-not-pointers_hold.true-raw)
+returns-then-not-pointers_hold c = refused_3 _ (record {
+  rows = c.if-nrows-gt65535.false;
+  cols = c.if-ncols-gt65535.false;
+  entries = c.if-i-gt4194304.false;
+}) c.if-p-ncols.false (failed c.pointers_hold.ensures c.if-not-pointers_hold.true-raw)
 
 pub returns-then-not-all_below : goal.returns-then-not-all_below
-returns-then-not-all_below c = refused_4 _ (record { rows = c.if-nrows-gt65535.false; cols = c.if-ncols-gt65535.false; entries = c.if-i-gt4194304.false }) c.if-p-ncols.false (held c.pointers_hold.ensures c.if-not-pointers_hold.false-raw) (failed c.all_below.ensures c.if-not-all_below.true-raw)
+returns-then-not-all_below c = refused_4 _ (record {
+  rows = c.if-nrows-gt65535.false;
+  cols = c.if-ncols-gt65535.false;
+  entries = c.if-i-gt4194304.false;
+}) c.if-p-ncols.false (held c.pointers_hold.ensures c.if-not-pointers_hold.false-raw)
+    (failed c.all_below.ensures c.if-not-all_below.true-raw)
 
 pub columns_rise-requires : goal.columns_rise-requires
-columns_rise-requires c = record { cols = c.if-ncols-gt65535.false; entries = c.if-i-gt4194304.false; p_long = c.if-p-ncols.false; ptrs = pointers_mean _ _ (held c.pointers_hold.ensures c.if-not-pointers_hold.false-raw) }
+columns_rise-requires c = record {
+  cols = c.if-ncols-gt65535.false;
+  entries = c.if-i-gt4194304.false;
+  p_long = c.if-p-ncols.false;
+  ptrs = pointers_mean _ _ (held c.pointers_hold.ensures c.if-not-pointers_hold.false-raw);
+}
 
 pub returns-then-not-columns_rise : goal.returns-then-not-columns_rise
-returns-then-not-columns_rise c = refused_5 _ (record { rows = c.if-nrows-gt65535.false; cols = c.if-ncols-gt65535.false; entries = c.if-i-gt4194304.false }) c.if-p-ncols.false (held c.pointers_hold.ensures c.if-not-pointers_hold.false-raw) (held c.all_below.ensures c.if-not-all_below.false-raw) (failed c.columns_rise.ensures c.if-not-columns_rise.true-raw)
+returns-then-not-columns_rise c = refused_5 _ (record {
+  rows = c.if-nrows-gt65535.false;
+  cols = c.if-ncols-gt65535.false;
+  entries = c.if-i-gt4194304.false;
+}) c.if-p-ncols.false (held c.pointers_hold.ensures c.if-not-pointers_hold.false-raw)
+    (held c.all_below.ensures c.if-not-all_below.false-raw) (failed c.columns_rise.ensures c.if-not-columns_rise.true-raw)
 
 pub returns : goal.returns
-returns c = not-refused _ (record { rows = c.if-nrows-gt65535.false; cols = c.if-ncols-gt65535.false; entries = c.if-i-gt4194304.false }) c.if-p-ncols.false (held c.pointers_hold.ensures c.if-not-pointers_hold.false-raw) (held c.all_below.ensures c.if-not-all_below.false-raw) (held c.columns_rise.ensures c.if-not-columns_rise.false-raw)
+returns c = not-refused _ (record { rows = c.if-nrows-gt65535.false; cols = c.if-ncols-gt65535.false; entries = c.if-i-gt4194304.false })
+    c.if-p-ncols.false (held c.pointers_hold.ensures c.if-not-pointers_hold.false-raw) (held c.all_below.ensures c.if-not-all_below.false-raw)
+    (held c.columns_rise.ensures c.if-not-columns_rise.false-raw)

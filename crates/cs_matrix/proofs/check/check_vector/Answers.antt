@@ -15,10 +15,13 @@ pub returns-then-v-i : goal.returns-then-v-i
 returns-then-v-i c = vector_2 _ c.if-n-gt65535.false c.if-i-gt4194304.false (λ e. c.if-v-i.true (sym e))
 
 pub returns-then-not-all_below : goal.returns-then-not-all_below
-returns-then-not-all_below c = vector_4 _ c.if-n-gt65535.false c.if-i-gt4194304.false (sym c.if-v-i.false) (failed c.all_below.ensures c.if-not-all_below.true-raw)
+returns-then-not-all_below c = vector_4 _ c.if-n-gt65535.false c.if-i-gt4194304.false (sym c.if-v-i.false)
+    (failed c.all_below.ensures c.if-not-all_below.true-raw)
 
 pub returns-then-falls-ne0 : goal.returns-then-falls-ne0
-returns-then-falls-ne0 c = vector_5 _ c.if-n-gt65535.false c.if-i-gt4194304.false (sym c.if-v-i.false) (held c.all_below.ensures c.if-not-all_below.false-raw) (not_risen _ c.falls.ensures c.if-falls-ne0.true)
+returns-then-falls-ne0 c = vector_5 _ c.if-n-gt65535.false c.if-i-gt4194304.false (sym c.if-v-i.false)
+    (held c.all_below.ensures c.if-not-all_below.false-raw) (not_risen _ c.falls.ensures c.if-falls-ne0.true)
 
 pub returns : goal.returns
-returns c = vector_0 _ c.if-n-gt65535.false c.if-i-gt4194304.false (sym c.if-v-i.false) (held c.all_below.ensures c.if-not-all_below.false-raw) (risen _ c.falls.ensures c.if-falls-ne0.false)
+returns c = vector_0 _ c.if-n-gt65535.false c.if-i-gt4194304.false (sym c.if-v-i.false) (held c.all_below.ensures c.if-not-all_below.false-raw)
+    (risen _ c.falls.ensures c.if-falls-ne0.false)

@@ -14,7 +14,10 @@ overflow_add-n c = omega (arith, counting_most _ c.loop-k.invariant.0, c.loop-k.
 
 pub loop-k-preserved : goal.loop-k-preserved
 loop-k-preserved c = (
-  elim c.if-rows-k.branch [ then-rows-k t ↦ rw t.n-is (counting_holds _ c.loop-k.invariant.0 (omega arith) (le-leb _ _ t.if-rows-k.true)) | else-rows-k t ↦ rw t.n-is (counting_fails _ c.loop-k.invariant.0 (omega arith) (lt-leb _ _ t.if-rows-k.false)) ],
+  elim c.if-rows-k.branch [
+    | then-rows-k t ↦ rw t.n-is (counting_holds _ c.loop-k.invariant.0 (omega arith) (le-leb _ _ t.if-rows-k.true))
+    | else-rows-k t ↦ rw t.n-is (counting_fails _ c.loop-k.invariant.0 (omega arith) (lt-leb _ _ t.if-rows-k.false))
+  ],
   c.loop-k.invariant.1,
 )
 

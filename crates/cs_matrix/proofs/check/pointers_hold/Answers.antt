@@ -16,7 +16,12 @@ pub loop-k-init : goal.loop-k-init
 loop-k-init c = telling_start _ _
 
 pub loop-k-preserved : goal.loop-k-preserved
-loop-k-preserved c = elim c.if-p-k.branch [ then-p-k t ↦ rw t.falls-is (telling_fails _ c.loop-k.invariant c.loop-k-test.true (lt-leb _ _ t.if-p-k.true)) | else-p-k t ↦ rw t.falls-is (telling_holds _ c.loop-k.invariant c.loop-k-test.true (le-leb _ _ t.if-p-k.false)) ]
+loop-k-preserved c = elim c.if-p-k.branch [
+  | then-p-k t ↦
+      rw t.falls-is (telling_fails _ c.loop-k.invariant c.loop-k-test.true (lt-leb _ _ t.if-p-k.true))
+  | else-p-k t ↦
+      rw t.falls-is (telling_holds _ c.loop-k.invariant c.loop-k-test.true (le-leb _ _ t.if-p-k.false))
+]
 
 pub returns : goal.returns
 returns c = telling_done _ c.loop-k.invariant c.loop-k-test.false ∙ pointers-rest _ _ c.if-p-ne0.false (sym c.wide.ensures.0 ∙ c.if-wide-n.false)

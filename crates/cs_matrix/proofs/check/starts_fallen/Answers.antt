@@ -17,7 +17,14 @@ pub overflow_add-n : goal.overflow_add-n
 overflow_add-n c = omega (arith, counting_most _ c.loop-j.invariant, c.requires.cols)
 
 pub loop-j-preserved : goal.loop-j-preserved
-loop-j-preserved c = elim c.if-start_falls.branch [ then-start_falls t ↦ rw t.n-is (counting_holds _ c.loop-j.invariant c.loop-j-test.true (rw (← c.wide.ensures.0, ← c.wide-in-loop-j.ensures.0) (sym c.start_falls.ensures ∙ t.if-start_falls.true))) | else-start_falls t ↦ rw t.n-is (counting_fails _ c.loop-j.invariant c.loop-j-test.true (rw (← c.wide.ensures.0, ← c.wide-in-loop-j.ensures.0) (sym c.start_falls.ensures ∙ t.if-start_falls.false))) ]
+loop-j-preserved c = elim c.if-start_falls.branch [
+  | then-start_falls t ↦
+      rw t.n-is (counting_holds _ c.loop-j.invariant c.loop-j-test.true
+      (rw (← c.wide.ensures.0, ← c.wide-in-loop-j.ensures.0) (sym c.start_falls.ensures ∙ t.if-start_falls.true)))
+  | else-start_falls t ↦
+      rw t.n-is (counting_fails _ c.loop-j.invariant c.loop-j-test.true
+      (rw (← c.wide.ensures.0, ← c.wide-in-loop-j.ensures.0) (sym c.start_falls.ensures ∙ t.if-start_falls.false)))
+]
 
 pub returns : goal.returns
 unfolding starts_fallen

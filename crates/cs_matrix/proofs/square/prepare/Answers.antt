@@ -12,7 +12,9 @@ pub overflow_add-need : goal.overflow_add-need
 overflow_add-need c = omega (arith, larger_small _ (scratch [] [] [] []) c.check_square-refused.ensures c.if-refused-ne0.false c.larger-need.ensures)
 
 pub returns-then-too_narrow : goal.returns-then-too_narrow
-returns-then-too_narrow c = prepare_6 _ _ c.check_square-refused.ensures c.if-refused-ne0.false c.larger-need.ensures c.too_narrow.ensures c.if-too_narrow.true
+returns-then-too_narrow c = prepare_6 _ _ c.check_square-refused.ensures c.if-refused-ne0.false c.larger-need.ensures c.too_narrow.ensures
+    c.if-too_narrow.true
 
 pub returns : goal.returns
-returns c = prepare_0 _ _ c.check_square-refused.ensures c.if-refused-ne0.false c.larger-need.ensures c.too_narrow.ensures c.if-too_narrow.false c.clear_scratch.ensures
+returns c = prepare_0 _ _ c.check_square-refused.ensures c.if-refused-ne0.false c.larger-need.ensures c.too_narrow.ensures c.if-too_narrow.false
+    c.clear_scratch.ensures

@@ -17,13 +17,16 @@ pub overflow_add-ncols : goal.overflow_add-ncols
 overflow_add-ncols c = record { fits = omega (arith, (square_valid (prepared _ _ _ c.prepare-refused.ensures c.if-refused-ne0.false)).cols) }
 
 pub returns-then-too_short : goal.returns-then-too_short
-returns-then-too_short c = at_7 (prepared _ _ _ c.prepare-refused.ensures c.if-refused-ne0.false) c.outline-t.ensures _ c.too_short.ensures c.if-too_short.true c.clear_scratch.ensures
+returns-then-too_short c = at_7 (prepared _ _ _ c.prepare-refused.ensures c.if-refused-ne0.false) c.outline-t.ensures _ c.too_short.ensures
+    c.if-too_short.true c.clear_scratch.ensures
 
 pub fill-requires : goal.fill-requires
-fill-requires c = ready (prepared _ _ _ c.prepare-refused.ensures c.if-refused-ne0.false) c.outline-t.ensures _ c.too_short.ensures c.if-too_short.false
+fill-requires c = ready (prepared _ _ _ c.prepare-refused.ensures c.if-refused-ne0.false) c.outline-t.ensures _ c.too_short.ensures
+    c.if-too_short.false
 
 pub overflow_add-need : goal.overflow_add-need
 overflow_add-need c = record { fits = omega (arith, (square_valid (prepared _ _ _ c.prepare-refused.ensures c.if-refused-ne0.false)).cols) }
 
 pub returns : goal.returns
-returns c = at-end (prepared _ _ _ c.prepare-refused.ensures c.if-refused-ne0.false) c.outline-t.ensures _ c.too_short.ensures c.if-too_short.false c.fill.ensures c.clear_scratch-2.ensures
+returns c = at-end (prepared _ _ _ c.prepare-refused.ensures c.if-refused-ne0.false) c.outline-t.ensures _ c.too_short.ensures c.if-too_short.false
+    c.fill.ensures c.clear_scratch-2.ensures

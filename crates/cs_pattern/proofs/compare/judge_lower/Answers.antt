@@ -8,7 +8,14 @@ pub returns-then-room-t : goal.returns-then-room-t
 returns-then-room-t c = (lower-tight c.args.room c.args.lp.now c.args.li.now c.if-room-t.true, kept-all _ _)
 
 pub returns-then-not-look : goal.returns-then-not-look
-returns-then-not-look c = (lower_differs c.args.room c.args.lp.now c.args.li.now c.if-room-t.false c.look.ensures.0 (not-true _ c.if-not-look.true-raw), c.look.ensures.1)
+returns-then-not-look c = (
+  lower_differs c.args.room c.args.lp.now c.args.li.now c.if-room-t.false c.look.ensures.0
+      (not-true _ c.if-not-look.true-raw),
+  c.look.ensures.1,
+)
 
 pub returns : goal.returns
-returns c = (lower-none c.args.room c.args.lp.now c.args.li.now c.if-room-t.false c.look.ensures.0 (not-false _ c.if-not-look.false-raw), c.look.ensures.1)
+returns c = (
+  lower-none c.args.room c.args.lp.now c.args.li.now c.if-room-t.false c.look.ensures.0 (not-false _ c.if-not-look.false-raw),
+  c.look.ensures.1,
+)

@@ -15,7 +15,10 @@ pub count_walk-count-requires : goal.count_walk-count-requires
 count_walk-count-requires c = (c.loop-q.invariant.0.asks, c.loop-q.invariant.0.wide)
 
 pub loop-q-preserved : goal.loop-q-preserved
-loop-q-preserved c = (rowing_turn c.loop-q.invariant.0 c.loop-q-test.true c.count_walk-count.auto.mark c.count_walk-count.ensures, c.loop-q.invariant.1)
+loop-q-preserved c = (
+  rowing_turn c.loop-q.invariant.0 c.loop-q-test.true c.count_walk-count.auto.mark c.count_walk-count.ensures,
+  c.loop-q.invariant.1,
+)
 
 pub shape_of-mark : goal.shape_of-mark
 shape_of-mark c = c.loop-q.invariant.0.same

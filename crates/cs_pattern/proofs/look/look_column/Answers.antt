@@ -12,10 +12,18 @@ pub bounds-next-j : goal.bounds-next-j
 bounds-next-j c = looking_in c.loop-q.invariant.0 c.loop-q-test.true c.wide-j.ensures.0
 
 pub returns-then-t-li : goal.returns-then-t-li
-returns-then-t-li c = (λ z. absurd (true≢false (sym z)), looked_past c.loop-q.invariant.1 c.loop-q-test.true c.wide-j.ensures.0 c.wide-t.ensures.0 c.if-t-li.true)
+returns-then-t-li c = (
+  λ z. absurd (true≢false (sym z)),
+  looked_past c.loop-q.invariant.1 c.loop-q-test.true c.wide-j.ensures.0 c.wide-t.ensures.0
+      c.if-t-li.true,
+)
 
 pub returns-then-li-t : goal.returns-then-li-t
-returns-then-li-t c = (λ z. absurd (true≢false (sym z)), looked_differs c.loop-q.invariant.1 c.loop-q-test.true c.wide-j.ensures.0 c.wide-t.ensures.0 c.if-li-t.true)
+returns-then-li-t c = (
+  λ z. absurd (true≢false (sym z)),
+  looked_differs c.loop-q.invariant.1 c.loop-q-test.true c.wide-j.ensures.0
+      c.wide-t.ensures.0 c.if-li-t.true,
+)
 
 pub bounds-next-j-in-loop-q : goal.bounds-next-j-in-loop-q
 bounds-next-j-in-loop-q c = looking_in c.loop-q.invariant.0 c.loop-q-test.true c.wide-j.ensures.0
@@ -33,4 +41,7 @@ loop-q-preserved c = (
 )
 
 pub returns : goal.returns
-returns c = (λ z. looking_done c.loop-q.invariant.0 c.loop-q-test.false, looked_agrees (going_done c.loop-q.invariant.1 c.loop-q.invariant.0.within c.loop-q-test.false))
+returns c = (
+  λ z. looking_done c.loop-q.invariant.0 c.loop-q-test.false,
+  looked_agrees (going_done c.loop-q.invariant.1 c.loop-q.invariant.0.within c.loop-q-test.false),
+)

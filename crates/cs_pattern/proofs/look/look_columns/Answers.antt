@@ -20,10 +20,21 @@ pub slice_bounds-look_column-end : goal.slice_bounds-look_column-end
 slice_bounds-look_column-end c = seen_inside c.requires.0 c.loop-k-test.true c.wide-b.ensures.0 c.wide-f.ensures.0
 
 pub look_column-requires : goal.look_column-requires
-look_column-requires c = (c.requires.0.few, λ m l. omega (arith, seen_low c.requires.0 c.loop-k-test.true c.wide-b.ensures.0 c.wide-f.ensures.0 m l, c.loop-k.invariant.0))
+look_column-requires c = (
+  c.requires.0.few,
+  λ m l. omega (
+    arith,
+    seen_low c.requires.0 c.loop-k-test.true c.wide-b.ensures.0 c.wide-f.ensures.0 m l,
+    c.loop-k.invariant.0,
+  ),
+)
 
 pub returns-then-not-look_column : goal.returns-then-not-look_column
-returns-then-not-look_column c = (λ z. absurd (true≢false (sym z)), λ z. lower_stop c.loop-k.invariant.2 c.loop-k-test.true c.wide-b.ensures.0 c.wide-f.ensures.0 c.look_column.ensures.1 (not-true _ c.if-not-look_column.true-raw))
+returns-then-not-look_column c = (
+  λ z. absurd (true≢false (sym z)),
+  λ z. lower_stop c.loop-k.invariant.2 c.loop-k-test.true c.wide-b.ensures.0
+      c.wide-f.ensures.0 c.look_column.ensures.1 (not-true _ c.if-not-look_column.true-raw),
+)
 
 pub loop-k-smaller : goal.loop-k-smaller
 loop-k-smaller c = omega (arith, c.loop-k-test.true)
@@ -31,8 +42,10 @@ loop-k-smaller c = omega (arith, c.loop-k-test.true)
 pub loop-k-preserved : goal.loop-k-preserved
 loop-k-preserved c = (
   c.look_column.auto.next ∙ c.loop-k.invariant.0,
-  seen_turn c.loop-k.invariant.1 c.loop-k-test.true (omega (arith, c.loop-k.invariant.0)) c.wide-b.ensures.0 c.wide-f.ensures.0 (c.look_column.ensures.0 (not-false _ c.if-not-look_column.false-raw)),
-  lower-turn c.loop-k.invariant.2 c.loop-k-test.true c.wide-b.ensures.0 c.wide-f.ensures.0 c.look_column.ensures.1 (not-false _ c.if-not-look_column.false-raw),
+  seen_turn c.loop-k.invariant.1 c.loop-k-test.true (omega (arith, c.loop-k.invariant.0)) c.wide-b.ensures.0 c.wide-f.ensures.0
+      (c.look_column.ensures.0 (not-false _ c.if-not-look_column.false-raw)),
+  lower-turn c.loop-k.invariant.2 c.loop-k-test.true c.wide-b.ensures.0 c.wide-f.ensures.0 c.look_column.ensures.1
+      (not-false _ c.if-not-look_column.false-raw),
 )
 
 pub returns : goal.returns

@@ -5,7 +5,8 @@ use Rattle.std.proofs.Common.{◌≡◌, ◌-◌, length}
 use Rattle.cs_pattern.proofs.look.look_columns.Given as goal
 
 abbrev pub invariant-loop-k : goal.invariant-loop-k
-invariant-loop-k l = (length l.next ≡ l.n) × Seen l.n l.up l.ui l.li l.initial.next l.next l.k × Columns l.n l.up l.ui l.initial.next l.li l.next l.li l.k
+invariant-loop-k l = (length l.next ≡ l.n) × Seen l.n l.up l.ui l.li l.initial.next l.next l.k ×
+    Columns l.n l.up l.ui l.initial.next l.li l.next l.li l.k
 
 abbrev pub decreases-loop-k : goal.decreases-loop-k
 decreases-loop-k l = l.n - l.k

@@ -13,13 +13,24 @@ pub overflow_sub-t : goal.overflow_sub-t
 overflow_sub-t c = putting_some c.loop-q.invariant.1 c.loop-q-test.true c.loop-q.invariant.0 c.wide-j.ensures.0 c.requires
 
 pub bounds-li-wide : goal.bounds-li-wide
-bounds-li-wide c = omega (arith, c.wide.ensures.0, putting_place c.loop-q.invariant.1 c.loop-q-test.true c.loop-q.invariant.0 c.wide-j.ensures.0 c.requires)
+bounds-li-wide c = omega (
+  arith,
+  c.wide.ensures.0,
+  putting_place c.loop-q.invariant.1 c.loop-q-test.true c.loop-q.invariant.0 c.wide-j.ensures.0
+      c.requires,
+)
 
 pub bounds-next-j-in-loop-q : goal.bounds-next-j-in-loop-q
 bounds-next-j-in-loop-q c = putting_row c.loop-q.invariant.1 c.loop-q-test.true c.loop-q.invariant.0 c.wide-j.ensures.0 c.requires
 
 pub loop-q-preserved : goal.loop-q-preserved
-loop-q-preserved c = (omega (arith, c.loop-q.invariant.0), putting_turn c.loop-q.invariant.1 c.loop-q-test.true c.loop-q.invariant.0 c.wide-j.ensures.0 c.wide.ensures.0, simp length-set c.loop-q.invariant.2, simp length-set c.loop-q.invariant.3)
+loop-q-preserved c = (
+  omega (arith, c.loop-q.invariant.0),
+  putting_turn c.loop-q.invariant.1 c.loop-q-test.true c.loop-q.invariant.0
+      c.wide-j.ensures.0 c.wide.ensures.0,
+  simp length-set c.loop-q.invariant.2,
+  simp length-set c.loop-q.invariant.3,
+)
 
 pub returns : goal.returns
 returns c = putting_done c.loop-q.invariant.1 (omega (arith, c.loop-q-test.false))

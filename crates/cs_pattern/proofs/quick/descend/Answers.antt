@@ -16,7 +16,8 @@ stops-requires c = c.requires.0
 pub returns-then-not-stops : goal.returns-then-not-stops
 returns-then-not-stops c = (
   not-read (omega arith),
-  λ older g m d. let s = aiming_stops c.requires.0 d c.requires.2 g refl refl in absurd (not-both _ (c.stops.ensures.1 older g s.0 s.1) (not-true _ c.if-not-stops.true-raw)),
+  λ older g m d. let s = aiming_stops c.requires.0 d c.requires.2 g refl refl in
+      absurd (not-both _ (c.stops.ensures.1 older g s.0 s.1) (not-true _ c.if-not-stops.true-raw)),
 )
 
 pub bounds-par-wide : goal.bounds-par-wide
@@ -30,13 +31,22 @@ loop-t-init c = (
 )
 
 pub returns-then-b-k : goal.returns-then-b-k
-returns-then-b-k c = (not-read (omega arith), λ older g m d. absurd (omega (arith, c.if-b-k.true, aiming_low c.loop-t.invariant.0 c.loop-t.invariant.2 c.loop-t-test.true g d)))
+returns-then-b-k c = (
+  not-read (omega arith),
+  λ older g m d. absurd (omega (arith, c.if-b-k.true, aiming_low c.loop-t.invariant.0 c.loop-t.invariant.2 c.loop-t-test.true g d)),
+)
 
 pub returns-then-par-j : goal.returns-then-par-j
-returns-then-par-j c = (not-read (omega arith), λ older g m d. absurd (c.if-par-j.true (aiming_parent c.loop-t.invariant.0 c.loop-t.invariant.2 c.loop-t-test.true g d c.wide-j.ensures.0)))
+returns-then-par-j c = (
+  not-read (omega arith),
+  λ older g m d. absurd (c.if-par-j.true (aiming_parent c.loop-t.invariant.0 c.loop-t.invariant.2 c.loop-t-test.true g d c.wide-j.ensures.0)),
+)
 
 pub returns-then-mark-j : goal.returns-then-mark-j
-returns-then-mark-j c = (not-read (omega arith), λ older g m d. absurd (aiming_new c.loop-t.invariant.0 c.loop-t.invariant.2 c.loop-t-test.true g d c.wide-j.ensures.0 c.if-mark-j.true))
+returns-then-mark-j c = (
+  not-read (omega arith),
+  λ older g m d. absurd (aiming_new c.loop-t.invariant.0 c.loop-t.invariant.2 c.loop-t-test.true g d c.wide-j.ensures.0 c.if-mark-j.true),
+)
 
 pub returns-then-b-row : goal.returns-then-b-row
 returns-then-b-row c = (

@@ -11,10 +11,22 @@ pub loop-q-init : goal.loop-q-init
 loop-q-init c = backing_start _ _ c.requires.0 c.requires.1
 
 pub read_row-next-requires : goal.read_row-next-requires
-read_row-next-requires c = (c.loop-q.invariant.asks, omega (arith, c.requires.2, part_long c.loop-q.top c.args.held.now c.loop-q.invariant.within, c.loop-q.invariant.within), c.if-row-k.false)
+read_row-next-requires c = (
+  c.loop-q.invariant.asks,
+  omega (
+    arith,
+    c.requires.2,
+    part_long c.loop-q.top c.args.held.now c.loop-q.invariant.within,
+    c.loop-q.invariant.within,
+  ),
+  c.if-row-k.false,
+)
 
 pub returns-then-next-top : goal.returns-then-next-top
-returns-then-next-top c = (λ z. absurd (true≢false (sym z)), λ e. absurd (omega (arith, c.if-next-top.true, backing_reads c.loop-q.invariant e c.loop-q-test.true c.read_row-next.ensures.1)))
+returns-then-next-top c = (
+  λ z. absurd (true≢false (sym z)),
+  λ e. absurd (omega (arith, c.if-next-top.true, backing_reads c.loop-q.invariant e c.loop-q-test.true c.read_row-next.ensures.1)),
+)
 
 pub loop-q-smaller : goal.loop-q-smaller
 loop-q-smaller c = omega (arith, c.loop-q-test.true)

@@ -20,13 +20,29 @@ pub shape_of-mark-then-f-b : goal.shape_of-mark-then-f-b
 shape_of-mark-then-f-b c = c.loop-k.invariant.m_long ∙ sym (as_many c.requires.0 c.requires.2)
 
 pub returns-then-f-b : goal.returns-then-f-b
-returns-then-f-b c = (λ z. absurd (true≢false (sym z)), λ d. absurd (omega (arith, c.if-f-b.true, holds_order c.requires.1 d (inside c.requires.0 c.loop-k-test.true) c.wide-b.ensures.0 c.wide-f.ensures.0)))
+returns-then-f-b c = (
+  λ z. absurd (true≢false (sym z)),
+  λ d. absurd (omega (
+    arith,
+    c.if-f-b.true,
+    holds_order c.requires.1 d (inside c.requires.0 c.loop-k-test.true) c.wide-b.ensures.0
+        c.wide-f.ensures.0,
+  )),
+)
 
 pub shape_of-mark-then-ui-f : goal.shape_of-mark-then-ui-f
 shape_of-mark-then-ui-f c = c.loop-k.invariant.m_long ∙ sym (as_many c.requires.0 c.requires.2)
 
 pub returns-then-ui-f : goal.returns-then-ui-f
-returns-then-ui-f c = (λ z. absurd (true≢false (sym z)), λ d. absurd (omega (arith, c.if-ui-f.true, holds_inside c.requires.1 d (inside c.requires.0 c.loop-k-test.true) c.wide-b.ensures.0 c.wide-f.ensures.0)))
+returns-then-ui-f c = (
+  λ z. absurd (true≢false (sym z)),
+  λ d. absurd (omega (
+    arith,
+    c.if-ui-f.true,
+    holds_inside c.requires.1 d (inside c.requires.0 c.loop-k-test.true) c.wide-b.ensures.0
+        c.wide-f.ensures.0,
+  )),
+)
 
 pub slice_bounds-read_column-count : goal.slice_bounds-read_column-count
 slice_bounds-read_column-count c = (here c.requires.0 c.loop-k-test.true c.wide-a.ensures.0 c.wide-e.ensures.0).order
@@ -38,7 +54,12 @@ pub slice_bounds-read_column-end : goal.slice_bounds-read_column-end
 slice_bounds-read_column-end c = (here c.requires.0 c.loop-k-test.true c.wide-a.ensures.0 c.wide-e.ensures.0).inside
 
 pub read_column-requires : goal.read_column-requires
-read_column-requires c = (given_walks c.requires.1 (inside c.requires.0 c.loop-k-test.true) c.loop-k.invariant.m_long, c.loop-k.invariant.fresh, omega (arith, length_part c.wide-b.result c.wide-f.result c.args.ui.now c.if-ui-f.false, c.wide-f.ensures.1), part-rises c.requires.0 c.loop-k-test.true c.wide-a.ensures.0 c.wide-e.ensures.0)
+read_column-requires c = (
+  given_walks c.requires.1 (inside c.requires.0 c.loop-k-test.true) c.loop-k.invariant.m_long,
+  c.loop-k.invariant.fresh,
+  omega (arith, length_part c.wide-b.result c.wide-f.result c.args.ui.now c.if-ui-f.false, c.wide-f.ensures.1),
+  part-rises c.requires.0 c.loop-k-test.true c.wide-a.ensures.0 c.wide-e.ensures.0,
+)
 
 pub returns-then-not-read_column : goal.returns-then-not-read_column
 returns-then-not-read_column c = (
@@ -47,7 +68,8 @@ returns-then-not-read_column c = (
       absurd
       (not-both _
       (c.read_column.ensures.1
-      (holds_column c.requires.1 d (inside c.requires.0 c.loop-k-test.true) c.wide-b.ensures.0 c.wide-f.ensures.0 (part-is c.requires.0 c.loop-k-test.true c.wide-a.ensures.0 c.wide-e.ensures.0)))
+      (holds_column c.requires.1 d (inside c.requires.0 c.loop-k-test.true) c.wide-b.ensures.0 c.wide-f.ensures.0
+      (part-is c.requires.0 c.loop-k-test.true c.wide-a.ensures.0 c.wide-e.ensures.0)))
       (not-true _ c.if-not-read_column.true-raw)),
 )
 
@@ -55,10 +77,16 @@ pub loop-k-smaller : goal.loop-k-smaller
 loop-k-smaller c = omega (arith, c.loop-k-test.true)
 
 pub loop-k-preserved : goal.loop-k-preserved
-loop-k-preserved c = reading_turn c.requires.1 c.loop-k.invariant (inside c.requires.0 c.loop-k-test.true) (part-is c.requires.0 c.loop-k-test.true c.wide-a.ensures.0 c.wide-e.ensures.0) c.wide-b.ensures.0 c.wide-f.ensures.0 c.if-f-b.false c.if-ui-f.false c.read_column.auto.mark (c.read_column.ensures.0 (not-false _ c.if-not-read_column.false-raw))
+loop-k-preserved c = reading_turn c.requires.1 c.loop-k.invariant (inside c.requires.0 c.loop-k-test.true)
+    (part-is c.requires.0 c.loop-k-test.true c.wide-a.ensures.0 c.wide-e.ensures.0) c.wide-b.ensures.0 c.wide-f.ensures.0 c.if-f-b.false
+    c.if-ui-f.false c.read_column.auto.mark (c.read_column.ensures.0 (not-false _ c.if-not-read_column.false-raw))
 
 pub shape_of-mark : goal.shape_of-mark
 shape_of-mark c = c.loop-k.invariant.m_long ∙ sym (as_many c.requires.0 c.requires.2)
 
 pub returns : goal.returns
-returns c = (λ z. reading_done c.requires.1 c.loop-k.invariant (outside c.requires.0 c.loop-k-test.false) (omega (arith, columns_long c.requires.0, c.requires.4)), λ d. refl)
+returns c = (
+  λ z. reading_done c.requires.1 c.loop-k.invariant (outside c.requires.0 c.loop-k-test.false)
+      (omega (arith, columns_long c.requires.0, c.requires.4)),
+  λ d. refl,
+)

@@ -1,5 +1,6 @@
 -- `lay` meets its contract. Assumes nothing.
-use Rattle.cs_tree.proofs.Tracing.{reaching_start, reaching_end, reaching_roomy, reaching_room, reaching_shift, reaching_turn, reaching_done, reaching_past}
+use Rattle.cs_tree.proofs.Tracing.{reaching_start, reaching_end, reaching_roomy, reaching_room, reaching_shift, reaching_turn, reaching_done}
+use Rattle.cs_tree.proofs.Tracing.{reaching_past}
 use Rattle.cs_pattern.proofs.reach.lay.Goals as goal
 
 pub loop-q-init : goal.loop-q-init
@@ -21,10 +22,14 @@ pub trace-len-requires : goal.trace-len-requires
 trace-len-requires c = (c.requires.0, c.loop-q.invariant.asks, reaching_roomy c.loop-q.invariant c.loop-q-test.true)
 
 pub shift-top-requires : goal.shift-top-requires
-shift-top-requires c = (reaching_room c.loop-q.invariant c.loop-q-test.true c.trace-len.auto.mark c.trace-len.auto.out c.trace-len.ensures, reaching_shift c.loop-q.invariant c.loop-q-test.true c.trace-len.auto.mark c.trace-len.auto.out c.trace-len.ensures)
+shift-top-requires c = (
+  reaching_room c.loop-q.invariant c.loop-q-test.true c.trace-len.auto.mark c.trace-len.auto.out c.trace-len.ensures,
+  reaching_shift c.loop-q.invariant c.loop-q-test.true c.trace-len.auto.mark c.trace-len.auto.out c.trace-len.ensures,
+)
 
 pub loop-q-preserved : goal.loop-q-preserved
-loop-q-preserved c = reaching_turn c.loop-q.invariant c.loop-q-test.true c.trace-len.auto.mark c.trace-len.auto.out c.trace-len.ensures c.shift-top.auto.out c.shift-top.ensures
+loop-q-preserved c = reaching_turn c.loop-q.invariant c.loop-q-test.true c.trace-len.auto.mark c.trace-len.auto.out c.trace-len.ensures
+    c.shift-top.auto.out c.shift-top.ensures
 
 pub shape_of-mark : goal.shape_of-mark
 shape_of-mark c = c.loop-q.invariant.same

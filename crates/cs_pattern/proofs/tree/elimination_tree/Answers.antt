@@ -17,10 +17,14 @@ pub slice_bounds-tree_column-end : goal.slice_bounds-tree_column-end
 slice_bounds-tree_column-end c = (here c.requires.0 c.loop-k-test.true c.wide-a.ensures.0 c.wide-e.ensures.0).inside
 
 pub tree_column-requires : goal.tree_column-requires
-tree_column-requires c = (growing_asks c.loop-k.invariant (rw (← columns_long c.requires.0) c.loop-k-test.true), part-rises c.requires.0 c.loop-k-test.true c.wide-a.ensures.0 c.wide-e.ensures.0)
+tree_column-requires c = (
+  growing_asks c.loop-k.invariant (rw (← columns_long c.requires.0) c.loop-k-test.true),
+  part-rises c.requires.0 c.loop-k-test.true c.wide-a.ensures.0 c.wide-e.ensures.0,
+)
 
 pub loop-k-preserved : goal.loop-k-preserved
-loop-k-preserved c = growing_turn c.loop-k.invariant (rw (← columns_long c.requires.0) c.loop-k-test.true) (part-is c.requires.0 c.loop-k-test.true c.wide-a.ensures.0 c.wide-e.ensures.0) c.tree_column.ensures
+loop-k-preserved c = growing_turn c.loop-k.invariant (rw (← columns_long c.requires.0) c.loop-k-test.true)
+    (part-is c.requires.0 c.loop-k-test.true c.wide-a.ensures.0 c.wide-e.ensures.0) c.tree_column.ensures
 
 pub shape_of-par : goal.shape_of-par
 shape_of-par c = par_long c.loop-k.invariant ∙ sym (c.requires.1 ∙ columns_long c.requires.0)

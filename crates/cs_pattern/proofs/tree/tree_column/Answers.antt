@@ -22,7 +22,10 @@ climb-preserved c = climbing_next c.climb.invariant (omega arith) c.if-a.false c
 
 pub loop-q-preserved : goal.loop-q-preserved
 loop-q-preserved c = rows-turn c.loop-q.invariant c.loop-q-test.true c.wide-i.ensures.0
-    (elim c.climb-test.branch [ else-climb-test w ↦ rw (w.par-is, w.anc-is) (climbing_end c.climb.invariant (omega arith)) | then-climb-test+then-a w ↦ rw (w.par-is, w.anc-is) (climbing_root c.climb.invariant (omega arith) w.if-a.true) ])
+    (elim c.climb-test.branch [
+      | else-climb-test w ↦ rw (w.par-is, w.anc-is) (climbing_end c.climb.invariant (omega arith))
+      | then-climb-test+then-a w ↦ rw (w.par-is, w.anc-is) (climbing_root c.climb.invariant (omega arith) w.if-a.true)
+    ])
 
 pub returns : goal.returns
 returns c = rows-done c.loop-q.invariant c.loop-q-test.false

@@ -1,7 +1,8 @@
 -- `fill_columns` meets its contract. Assumes nothing.
 use Rattle.cs_pattern.proofs.Columns.{as_many, columns_long}
 use Rattle.cs_tree.proofs.Falling.{falling_start, fall_few, falling_done}
-use Rattle.cs_pattern.proofs.Falls.{falls-within, falls-in, falls-pointers, falls-up, falls_here, falls_asks, falls_order, falls-end, falls-last, falls-turn}
+use Rattle.cs_pattern.proofs.Falls.{falls-within, falls-in, falls-pointers, falls-up, falls_here, falls_asks, falls_order, falls-end, falls-last}
+use Rattle.cs_pattern.proofs.Falls.{falls-turn}
 use Rattle.std.proofs.Common.{sym, ◌∙◌, arith, length-set}
 use Rattle.cs_pattern.proofs.upper.fill_columns.Goals as goal
 
@@ -42,28 +43,43 @@ pub lay-low-requires : goal.lay-low-requires
 lay-low-requires c = falls_asks c.requires.0 c.requires.1 c.loop-k.invariant c.loop-k-test.true c.wide-a.ensures.0 c.wide-e.ensures.0
 
 pub offset_bounds-ui-low : goal.offset_bounds-ui-low
-offset_bounds-ui-low c = omega (arith, falls_order c.requires.0 c.requires.1 c.loop-k.invariant c.loop-k-test.true c.wide-a.ensures.0 c.wide-e.ensures.0 c.lay-low.auto.out c.lay-low.ensures, fall_few c.requires.1 c.loop-k.invariant (omega (arith, c.requires.4.few, c.requires.4.size)))
+offset_bounds-ui-low c = omega (
+  arith,
+  falls_order c.requires.0 c.requires.1 c.loop-k.invariant c.loop-k-test.true c.wide-a.ensures.0
+      c.wide-e.ensures.0 c.lay-low.auto.out c.lay-low.ensures,
+  fall_few c.requires.1 c.loop-k.invariant (omega (arith, c.requires.4.few, c.requires.4.size)),
+)
 
 pub slice_bounds-lower_column-count : goal.slice_bounds-lower_column-count
-slice_bounds-lower_column-count c = falls_order c.requires.0 c.requires.1 c.loop-k.invariant c.loop-k-test.true c.wide-a.ensures.0 c.wide-e.ensures.0 c.lay-low.auto.out c.lay-low.ensures
+slice_bounds-lower_column-count c = falls_order c.requires.0 c.requires.1 c.loop-k.invariant c.loop-k-test.true c.wide-a.ensures.0
+    c.wide-e.ensures.0 c.lay-low.auto.out c.lay-low.ensures
 
 pub slice_bounds-lower_column-start : goal.slice_bounds-lower_column-start
-slice_bounds-lower_column-start c = falls_order c.requires.0 c.requires.1 c.loop-k.invariant c.loop-k-test.true c.wide-a.ensures.0 c.wide-e.ensures.0 c.lay-low.auto.out c.lay-low.ensures
+slice_bounds-lower_column-start c = falls_order c.requires.0 c.requires.1 c.loop-k.invariant c.loop-k-test.true c.wide-a.ensures.0
+    c.wide-e.ensures.0 c.lay-low.auto.out c.lay-low.ensures
 
 pub slice_bounds-lower_column-end : goal.slice_bounds-lower_column-end
-slice_bounds-lower_column-end c = falls-end c.requires.0 c.requires.1 c.loop-k.invariant c.loop-k-test.true c.wide-a.ensures.0 c.wide-e.ensures.0 c.lay-low.auto.out c.lay-low.ensures
+slice_bounds-lower_column-end c = falls-end c.requires.0 c.requires.1 c.loop-k.invariant c.loop-k-test.true c.wide-a.ensures.0 c.wide-e.ensures.0
+    c.lay-low.auto.out c.lay-low.ensures
 
 pub lower_column-requires : goal.lower_column-requires
-lower_column-requires c = falls-last c.requires.0 c.requires.1 c.loop-k.invariant c.loop-k-test.true c.wide-a.ensures.0 c.wide-e.ensures.0 c.lay-low.auto.out c.lay-low.ensures
+lower_column-requires c = falls-last c.requires.0 c.requires.1 c.loop-k.invariant c.loop-k-test.true c.wide-a.ensures.0 c.wide-e.ensures.0
+    c.lay-low.auto.out c.lay-low.ensures
 
 pub overflow_cast-up-in-loop-k : goal.overflow_cast-up-in-loop-k
-overflow_cast-up-in-loop-k c = omega (arith, falls_order c.requires.0 c.requires.1 c.loop-k.invariant c.loop-k-test.true c.wide-a.ensures.0 c.wide-e.ensures.0 c.lay-low.auto.out c.lay-low.ensures, fall_few c.requires.1 c.loop-k.invariant (omega (arith, c.requires.4.few, c.requires.4.size)))
+overflow_cast-up-in-loop-k c = omega (
+  arith,
+  falls_order c.requires.0 c.requires.1 c.loop-k.invariant c.loop-k-test.true c.wide-a.ensures.0
+      c.wide-e.ensures.0 c.lay-low.auto.out c.lay-low.ensures,
+  fall_few c.requires.1 c.loop-k.invariant (omega (arith, c.requires.4.few, c.requires.4.size)),
+)
 
 pub bounds-up-k : goal.bounds-up-k
 bounds-up-k c = falls-up c.requires.0 c.requires.1 c.loop-k.invariant c.loop-k-test.true
 
 pub loop-k-preserved : goal.loop-k-preserved
-loop-k-preserved c = falls-turn c.requires.0 c.requires.1 c.loop-k.invariant c.loop-k-test.true c.wide-a.ensures.0 c.wide-e.ensures.0 c.lay-low.auto.out c.lay-low.ensures c.lay-low.auto.mark c.lower_column.ensures
+loop-k-preserved c = falls-turn c.requires.0 c.requires.1 c.loop-k.invariant c.loop-k-test.true c.wide-a.ensures.0 c.wide-e.ensures.0
+    c.lay-low.auto.out c.lay-low.ensures c.lay-low.auto.mark c.lower_column.ensures
 
 pub shape_of-mark : goal.shape_of-mark
 shape_of-mark c = c.loop-k.invariant.m_long ∙ sym (as_many c.requires.0 c.requires.2)

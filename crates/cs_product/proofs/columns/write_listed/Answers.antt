@@ -35,4 +35,5 @@ pub shape_of-met : goal.shape_of-met
 shape_of-met c = met_long c.accumulate-many.ensures.1 c.sort.ensures refl ∙ sym c.requires.starting.fresh.met_long
 
 pub returns : goal.returns
-returns c = column-written c.requires.starting c.accumulate-many.ensures.0 c.accumulate-many.ensures.1 c.requires c.sort.ensures refl c.gather.ensures.0 c.gather.ensures.1 c.gather.ensures.2 c.gather.ensures.3
+returns c = column-written c.requires.starting c.accumulate-many.ensures.0 c.accumulate-many.ensures.1 c.requires c.sort.ensures refl
+    c.gather.ensures.0 c.gather.ensures.1 c.gather.ensures.2 c.gather.ensures.3

@@ -2,7 +2,8 @@
 use mathlib.Core.Path.{◌∙◌}
 use native.Mathlib.Omega.{arith}
 use lib.ListN.{length-set}
-use Rattle.cs_product.proofs.Produced.{writing_start, writing_small, writing_p, writing_last, writing_i, writing_v, writing_handed, writing_bv, writing_asks, writing_turn, writing_done}
+use Rattle.cs_product.proofs.Produced.{writing_start, writing_small, writing_p, writing_last, writing_i, writing_v, writing_handed, writing_bv}
+use Rattle.cs_product.proofs.Produced.{writing_asks, writing_turn, writing_done}
 use Rattle.cs_product.proofs.Meeting.{x_long}
 use Rattle.cs_product.proofs.product.fill.Goals as goal
 
@@ -49,22 +50,27 @@ pub offset_bounds-bi-a : goal.offset_bounds-bi-a
 offset_bounds-bi-a c = omega (arith, c.wide-e.ensures.1, c.wide-a.ensures.1)
 
 pub slice_bounds-write_column-count : goal.slice_bounds-write_column-count
-slice_bounds-write_column-count c = (writing_handed _ _ _ _ _ _ _ _ _ c.loop-j.invariant c.loop-j-test.true c.wide-a.ensures.0 c.wide-e.ensures.0).order
+slice_bounds-write_column-count c = (writing_handed _ _ _ _ _ _ _ _ _ c.loop-j.invariant c.loop-j-test.true c.wide-a.ensures.0
+    c.wide-e.ensures.0).order
 
 pub slice_bounds-write_column-start : goal.slice_bounds-write_column-start
-slice_bounds-write_column-start c = (writing_handed _ _ _ _ _ _ _ _ _ c.loop-j.invariant c.loop-j-test.true c.wide-a.ensures.0 c.wide-e.ensures.0).order
+slice_bounds-write_column-start c = (writing_handed _ _ _ _ _ _ _ _ _ c.loop-j.invariant c.loop-j-test.true c.wide-a.ensures.0
+    c.wide-e.ensures.0).order
 
 pub slice_bounds-write_column-end : goal.slice_bounds-write_column-end
-slice_bounds-write_column-end c = (writing_handed _ _ _ _ _ _ _ _ _ c.loop-j.invariant c.loop-j-test.true c.wide-a.ensures.0 c.wide-e.ensures.0).inside
+slice_bounds-write_column-end c = (writing_handed _ _ _ _ _ _ _ _ _ c.loop-j.invariant c.loop-j-test.true c.wide-a.ensures.0
+    c.wide-e.ensures.0).inside
 
 pub offset_bounds-bv-a : goal.offset_bounds-bv-a
 offset_bounds-bv-a c = omega (arith, c.wide-e.ensures.1, c.wide-a.ensures.1)
 
 pub slice_bounds-write_column-count-in-loop-j : goal.slice_bounds-write_column-count-in-loop-j
-slice_bounds-write_column-count-in-loop-j c = (writing_handed _ _ _ _ _ _ _ _ _ c.loop-j.invariant c.loop-j-test.true c.wide-a.ensures.0 c.wide-e.ensures.0).order
+slice_bounds-write_column-count-in-loop-j c =
+    (writing_handed _ _ _ _ _ _ _ _ _ c.loop-j.invariant c.loop-j-test.true c.wide-a.ensures.0 c.wide-e.ensures.0).order
 
 pub slice_bounds-write_column-start-in-loop-j : goal.slice_bounds-write_column-start-in-loop-j
-slice_bounds-write_column-start-in-loop-j c = (writing_handed _ _ _ _ _ _ _ _ _ c.loop-j.invariant c.loop-j-test.true c.wide-a.ensures.0 c.wide-e.ensures.0).order
+slice_bounds-write_column-start-in-loop-j c =
+    (writing_handed _ _ _ _ _ _ _ _ _ c.loop-j.invariant c.loop-j-test.true c.wide-a.ensures.0 c.wide-e.ensures.0).order
 
 pub slice_bounds-write_column-end-in-loop-j : goal.slice_bounds-write_column-end-in-loop-j
 slice_bounds-write_column-end-in-loop-j c = writing_bv _ _ _ _ _ _ _ _ _ c.loop-j.invariant c.loop-j-test.true c.wide-a.ensures.0 c.wide-e.ensures.0
@@ -79,7 +85,8 @@ pub loop-j-smaller : goal.loop-j-smaller
 loop-j-smaller c = omega (arith, c.loop-j-test.true)
 
 pub loop-j-preserved : goal.loop-j-preserved
-loop-j-preserved c = writing_turn _ _ _ _ _ _ _ _ _ c.loop-j.invariant c.loop-j-test.true c.wide-a.ensures.0 c.wide-e.ensures.0 c.write_column-at.auto.spare c.write_column-at.ensures.0 c.write_column-at.ensures.1 c.write_column-at.ensures.2 c.write_column-at.ensures.3
+loop-j-preserved c = writing_turn _ _ _ _ _ _ _ _ _ c.loop-j.invariant c.loop-j-test.true c.wide-a.ensures.0 c.wide-e.ensures.0
+    c.write_column-at.auto.spare c.write_column-at.ensures.0 c.write_column-at.ensures.1 c.write_column-at.ensures.2 c.write_column-at.ensures.3
 
 pub overflow_cast-op-2 : goal.overflow_cast-op-2
 overflow_cast-op-2 c = omega (arith, writing_small _ _ _ _ _ _ _ _ _ c.loop-j.invariant)

@@ -49,7 +49,8 @@ pub smaller-most-requires : goal.smaller-most-requires
 smaller-most-requires c = tt
 
 pub overflow_add-most : goal.overflow_add-most
-overflow_add-most c = let h = bounding_small _ _ _ _ _ _ _ _ _ c.loop-j.invariant c.loop-j-test.true c.wide-a.ensures.0 c.wide-e.ensures.0 c.span_of-s.ensures c.smaller-most.ensures in record { fits = omega arith }
+overflow_add-most c = let h = bounding_small _ _ _ _ _ _ _ _ _ c.loop-j.invariant c.loop-j-test.true c.wide-a.ensures.0 c.wide-e.ensures.0
+    c.span_of-s.ensures c.smaller-most.ensures in record { fits = omega arith }
 
 pub overflow_step-j : goal.overflow_step-j
 overflow_step-j c = let h = c.loop-j-test.true in let g = c.loop-j.invariant.ask.second.pattern.cols in record { fits = omega arith }
@@ -58,7 +59,8 @@ pub loop-j-smaller : goal.loop-j-smaller
 loop-j-smaller c = omega (arith, c.loop-j-test.true)
 
 pub loop-j-preserved : goal.loop-j-preserved
-loop-j-preserved c = bounding_turn _ _ _ _ _ _ _ _ _ c.loop-j.invariant c.loop-j-test.true c.wide-a.ensures.0 c.wide-e.ensures.0 c.span_of-s.ensures c.smaller-most.ensures
+loop-j-preserved c = bounding_turn _ _ _ _ _ _ _ _ _ c.loop-j.invariant c.loop-j-test.true c.wide-a.ensures.0 c.wide-e.ensures.0 c.span_of-s.ensures
+    c.smaller-most.ensures
 
 pub returns : goal.returns
 returns c = bounding_done _ _ _ _ _ _ _ _ _ c.loop-j.invariant c.loop-j-test.false

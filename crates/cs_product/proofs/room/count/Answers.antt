@@ -38,22 +38,27 @@ pub offset_bounds-bi-a : goal.offset_bounds-bi-a
 offset_bounds-bi-a c = omega (arith, c.wide-e.ensures.1, c.wide-a.ensures.1)
 
 pub slice_bounds-count_column-count : goal.slice_bounds-count_column-count
-slice_bounds-count_column-count c = (tallying_handed _ _ _ _ _ _ _ _ _ c.loop-j.invariant c.loop-j-test.true c.wide-a.ensures.0 c.wide-e.ensures.0).order
+slice_bounds-count_column-count c = (tallying_handed _ _ _ _ _ _ _ _ _ c.loop-j.invariant c.loop-j-test.true c.wide-a.ensures.0
+    c.wide-e.ensures.0).order
 
 pub slice_bounds-count_column-start : goal.slice_bounds-count_column-start
-slice_bounds-count_column-start c = (tallying_handed _ _ _ _ _ _ _ _ _ c.loop-j.invariant c.loop-j-test.true c.wide-a.ensures.0 c.wide-e.ensures.0).order
+slice_bounds-count_column-start c = (tallying_handed _ _ _ _ _ _ _ _ _ c.loop-j.invariant c.loop-j-test.true c.wide-a.ensures.0
+    c.wide-e.ensures.0).order
 
 pub slice_bounds-count_column-end : goal.slice_bounds-count_column-end
-slice_bounds-count_column-end c = (tallying_handed _ _ _ _ _ _ _ _ _ c.loop-j.invariant c.loop-j-test.true c.wide-a.ensures.0 c.wide-e.ensures.0).inside
+slice_bounds-count_column-end c = (tallying_handed _ _ _ _ _ _ _ _ _ c.loop-j.invariant c.loop-j-test.true c.wide-a.ensures.0
+    c.wide-e.ensures.0).inside
 
 pub offset_bounds-bv-a : goal.offset_bounds-bv-a
 offset_bounds-bv-a c = omega (arith, c.wide-e.ensures.1, c.wide-a.ensures.1)
 
 pub slice_bounds-count_column-count-in-loop-j : goal.slice_bounds-count_column-count-in-loop-j
-slice_bounds-count_column-count-in-loop-j c = (tallying_handed _ _ _ _ _ _ _ _ _ c.loop-j.invariant c.loop-j-test.true c.wide-a.ensures.0 c.wide-e.ensures.0).order
+slice_bounds-count_column-count-in-loop-j c =
+    (tallying_handed _ _ _ _ _ _ _ _ _ c.loop-j.invariant c.loop-j-test.true c.wide-a.ensures.0 c.wide-e.ensures.0).order
 
 pub slice_bounds-count_column-start-in-loop-j : goal.slice_bounds-count_column-start-in-loop-j
-slice_bounds-count_column-start-in-loop-j c = (tallying_handed _ _ _ _ _ _ _ _ _ c.loop-j.invariant c.loop-j-test.true c.wide-a.ensures.0 c.wide-e.ensures.0).order
+slice_bounds-count_column-start-in-loop-j c =
+    (tallying_handed _ _ _ _ _ _ _ _ _ c.loop-j.invariant c.loop-j-test.true c.wide-a.ensures.0 c.wide-e.ensures.0).order
 
 pub slice_bounds-count_column-end-in-loop-j : goal.slice_bounds-count_column-end-in-loop-j
 slice_bounds-count_column-end-in-loop-j c = tallying_bv _ _ _ _ _ _ _ _ _ c.loop-j.invariant c.loop-j-test.true c.wide-a.ensures.0 c.wide-e.ensures.0
@@ -62,7 +67,8 @@ pub count_column-entries-requires : goal.count_column-entries-requires
 count_column-entries-requires c = tallying_asks _ _ _ _ _ _ _ _ _ c.loop-j.invariant c.loop-j-test.true c.wide-a.ensures.0 c.wide-e.ensures.0
 
 pub overflow_add-entries : goal.overflow_add-entries
-overflow_add-entries c = let h = tallying_small _ _ _ _ _ _ _ _ _ c.loop-j.invariant c.loop-j-test.true c.wide-a.ensures.0 c.wide-e.ensures.0 c.count_column-entries.ensures.0 in record { fits = omega arith }
+overflow_add-entries c = let h = tallying_small _ _ _ _ _ _ _ _ _ c.loop-j.invariant c.loop-j-test.true c.wide-a.ensures.0 c.wide-e.ensures.0
+    c.count_column-entries.ensures.0 in record { fits = omega arith }
 
 pub overflow_step-j : goal.overflow_step-j
 overflow_step-j c = let h = c.loop-j-test.true in let g = c.loop-j.invariant.begun.second.pattern.cols in record { fits = omega arith }
@@ -71,7 +77,8 @@ pub loop-j-smaller : goal.loop-j-smaller
 loop-j-smaller c = omega (arith, c.loop-j-test.true)
 
 pub loop-j-preserved : goal.loop-j-preserved
-loop-j-preserved c = tallying_turn _ _ _ _ _ _ _ _ _ c.loop-j.invariant c.loop-j-test.true c.wide-a.ensures.0 c.wide-e.ensures.0 c.count_column-entries.ensures.0 c.count_column-entries.ensures.1
+loop-j-preserved c = tallying_turn _ _ _ _ _ _ _ _ _ c.loop-j.invariant c.loop-j-test.true c.wide-a.ensures.0 c.wide-e.ensures.0
+    c.count_column-entries.ensures.0 c.count_column-entries.ensures.1
 
 pub shape_of-mark : goal.shape_of-mark
 shape_of-mark c = omega (arith, c.loop-j.invariant.begun.fresh.mark_long, c.requires.fresh.mark_long)

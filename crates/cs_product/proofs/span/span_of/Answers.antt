@@ -26,10 +26,15 @@ pub wide-a-requires : goal.wide-a-requires
 wide-a-requires c = tt
 
 pub overflow_add-c : goal.overflow_add-c
-overflow_add-c c = let h = col_below _ _ _ _ _ c.loop-k.invariant c.loop-k-test.true c.wide-c.ensures.0 in let g = c.loop-k.invariant.ask.valid.cols in record { fits = omega arith }
+overflow_add-c c = let h = col_below _ _ _ _ _ c.loop-k.invariant c.loop-k-test.true c.wide-c.ensures.0 in let g = c.loop-k.invariant.ask.valid.cols
+    in record { fits = omega arith }
 
 pub offset_bounds-p-c-in-loop-k : goal.offset_bounds-p-c-in-loop-k
-offset_bounds-p-c-in-loop-k c = omega (arith, col_below _ _ _ _ _ c.loop-k.invariant c.loop-k-test.true c.wide-c.ensures.0, c.loop-k.invariant.ask.valid.cols)
+offset_bounds-p-c-in-loop-k c = omega (
+  arith,
+  col_below _ _ _ _ _ c.loop-k.invariant c.loop-k-test.true c.wide-c.ensures.0,
+  c.loop-k.invariant.ask.valid.cols,
+)
 
 pub bounds-p-c-in-loop-k : goal.bounds-p-c-in-loop-k
 bounds-p-c-in-loop-k c = col_in_p _ _ _ _ _ c.loop-k.invariant c.loop-k-test.true c.wide-c.ensures.0
@@ -71,7 +76,8 @@ pub overflow_sub-work : goal.overflow_sub-work
 overflow_sub-work c = omega (arith, c.if-a-e.true)
 
 pub overflow_add-work : goal.overflow_add-work
-overflow_add-work c = let h = c.loop-k.invariant.small in let g = c.loop-k-test.true in let f = c.loop-k.invariant.ask.few in let e = c.wide-e.ensures.1 in record { fits = omega arith }
+overflow_add-work c = let h = c.loop-k.invariant.small in let g = c.loop-k-test.true in let f = c.loop-k.invariant.ask.few in
+    let e = c.wide-e.ensures.1 in record { fits = omega arith }
 
 pub overflow_step-k : goal.overflow_step-k
 overflow_step-k c = let g = c.loop-k-test.true in let f = c.loop-k.invariant.ask.few in record { fits = omega arith }
@@ -83,7 +89,12 @@ pub loop-k-preserved : goal.loop-k-preserved
 loop-k-preserved c =
     let v = c.loop-k.invariant in
     let h = c.loop-k-test.true in
-    elim c.if-a-e.branch [ then-a-e t ↦ rw (t.lo-is, t.hi-is, t.work-is) (spanning_on _ _ _ _ _ v h c.wide-c.ensures.0 c.wide-a.ensures.0 c.wide-e.ensures.0 t.if-a-e.true t.wide.ensures.0 t.wide-then-a-e.ensures.0 t.smaller-lo.ensures t.larger-hi.ensures) | else-a-e t ↦ rw (t.lo-is, t.hi-is, t.work-is) (spanning_off _ _ _ _ _ v h c.wide-c.ensures.0 c.wide-a.ensures.0 c.wide-e.ensures.0 t.if-a-e.false) ]
+    elim c.if-a-e.branch [
+      | then-a-e t ↦ rw (t.lo-is, t.hi-is, t.work-is) (spanning_on _ _ _ _ _ v h c.wide-c.ensures.0 c.wide-a.ensures.0
+          c.wide-e.ensures.0 t.if-a-e.true t.wide.ensures.0 t.wide-then-a-e.ensures.0 t.smaller-lo.ensures t.larger-hi.ensures)
+      | else-a-e t ↦
+          rw (t.lo-is, t.hi-is, t.work-is) (spanning_off _ _ _ _ _ v h c.wide-c.ensures.0 c.wide-a.ensures.0 c.wide-e.ensures.0 t.if-a-e.false)
+    ]
 
 pub smaller-requires : goal.smaller-requires
 smaller-requires c = tt

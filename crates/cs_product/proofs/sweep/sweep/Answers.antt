@@ -1,6 +1,7 @@
 -- `sweep`: the loop of proofs/Sweeping.antt. Assumes nothing.
 use native.Mathlib.Omega.{arith}
-use Rattle.cs_product.proofs.Sweeping.{sweeping_start, sweeping_small, sweeping_i, sweeping_v, sweeping_on, sweeping_off, sweeping_done, at-in_i, at-in_v, r_in, r_small}
+use Rattle.cs_product.proofs.Sweeping.{sweeping_start, sweeping_small, sweeping_i, sweeping_v, sweeping_on, sweeping_off, sweeping_done, at-in_i}
+use Rattle.cs_product.proofs.Sweeping.{at-in_v, r_in, r_small}
 use Rattle.cs_product.proofs.sweep.sweep.Goals as goal
 use Rattle.cs_product.proofs.sweep.sweep.Goals.{else-x-r, then-x-r}
 
@@ -50,7 +51,12 @@ pub loop-r-smaller : goal.loop-r-smaller
 loop-r-smaller c = omega (arith, c.loop-r-test.true)
 
 pub loop-r-preserved : goal.loop-r-preserved
-loop-r-preserved c = elim c.if-x-r.branch [ then-x-r t ↦ rw (t.oi-is, t.ov-is, t.at-is) (sweeping_on _ _ _ _ c.loop-r.invariant c.loop-r-test.true t.if-x-r.true) | else-x-r t ↦ rw (t.oi-is, t.ov-is, t.at-is) (sweeping_off _ _ _ _ c.loop-r.invariant c.loop-r-test.true t.if-x-r.false) ]
+loop-r-preserved c = elim c.if-x-r.branch [
+  | then-x-r t ↦
+      rw (t.oi-is, t.ov-is, t.at-is) (sweeping_on _ _ _ _ c.loop-r.invariant c.loop-r-test.true t.if-x-r.true)
+  | else-x-r t ↦
+      rw (t.oi-is, t.ov-is, t.at-is) (sweeping_off _ _ _ _ c.loop-r.invariant c.loop-r-test.true t.if-x-r.false)
+]
 
 pub shape_of-x : goal.shape_of-x
 shape_of-x c = c.loop-r.invariant.long

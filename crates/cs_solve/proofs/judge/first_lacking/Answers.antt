@@ -29,13 +29,17 @@ slice_bounds-value_at-end-in-loop-j c = (handed c.requires c.loop-j-test.true c.
 
 pub returns-then-value_at : goal.returns-then-value_at
 unfolding lacking_columns
-returns-then-value_at c = upward_found c.loop-j.invariant c.loop-j-test.true (lacking-is _ _ (diagonal-is _ _ (handed c.requires c.loop-j-test.true c.wide-a.ensures.0 c.wide-e.ensures.0) c.value_at.ensures) c.if-value_at.true)
+returns-then-value_at c = upward_found c.loop-j.invariant c.loop-j-test.true
+    (lacking-is _ _ (diagonal-is _ _ (handed c.requires c.loop-j-test.true c.wide-a.ensures.0 c.wide-e.ensures.0) c.value_at.ensures)
+    c.if-value_at.true)
 
 pub loop-j-smaller : goal.loop-j-smaller
 loop-j-smaller c = omega (arith, c.loop-j-test.true)
 
 pub loop-j-preserved : goal.loop-j-preserved
-loop-j-preserved c = upward_turn c.loop-j.invariant c.loop-j-test.true (lacking-is _ _ (diagonal-is _ _ (handed c.requires c.loop-j-test.true c.wide-a.ensures.0 c.wide-e.ensures.0) c.value_at.ensures) c.if-value_at.false)
+loop-j-preserved c = upward_turn c.loop-j.invariant c.loop-j-test.true
+    (lacking-is _ _ (diagonal-is _ _ (handed c.requires c.loop-j-test.true c.wide-a.ensures.0 c.wide-e.ensures.0) c.value_at.ensures)
+    c.if-value_at.false)
 
 pub returns : goal.returns
 unfolding lacking_columns

@@ -44,13 +44,15 @@ pub slice_bounds-forward_column-end-in-loop-j : goal.slice_bounds-forward_column
 slice_bounds-forward_column-end-in-loop-j c = (handed c.requires.0 c.loop-j-test.true c.wide-a.ensures.0 c.wide-e.ensures.0).inside_v
 
 pub forward_column-requires : goal.forward_column-requires
-forward_column-requires c = forwarding_asked c.loop-j.invariant c.loop-j-test.true (handed c.requires.0 c.loop-j-test.true c.wide-a.ensures.0 c.wide-e.ensures.0)
+forward_column-requires c = forwarding_asked c.loop-j.invariant c.loop-j-test.true
+    (handed c.requires.0 c.loop-j-test.true c.wide-a.ensures.0 c.wide-e.ensures.0)
 
 pub loop-j-smaller : goal.loop-j-smaller
 loop-j-smaller c = omega (arith, c.loop-j-test.true)
 
 pub loop-j-preserved : goal.loop-j-preserved
-loop-j-preserved c = forwarding_turn c.loop-j.invariant c.loop-j-test.true (handed c.requires.0 c.loop-j-test.true c.wide-a.ensures.0 c.wide-e.ensures.0) c.value_at-d.ensures c.forward_column.ensures
+loop-j-preserved c = forwarding_turn c.loop-j.invariant c.loop-j-test.true
+    (handed c.requires.0 c.loop-j-test.true c.wide-a.ensures.0 c.wide-e.ensures.0) c.value_at-d.ensures c.forward_column.ensures
 
 pub shape_of-b : goal.shape_of-b
 shape_of-b c = c.loop-j.invariant.long

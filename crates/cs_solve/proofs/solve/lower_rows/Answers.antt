@@ -14,13 +14,14 @@ pub loop-k-smaller : goal.loop-k-smaller
 loop-k-smaller c = omega (arith, c.loop-k-test.true)
 
 pub loop-k-preserved : goal.loop-k-preserved
-loop-k-preserved c = let w = c.loop-k.invariant in let g = c.loop-k-test.true in let h = ltb-true _ _ c.if-k-vals.true-raw in let e = c.wide-i.ensures.0 in elim c.if-j-i.branch [
-  | then-j-i+then-i-b t ↦ rw t.b-is (lowering_set w g h e t.if-j-i.true)
-  | else-j-i u ↦ rw u.b-is (elim u.else-j-i.branch [
-    | else-j-i-via-then-j-i+else-i-b s ↦ lowering_out w g h e s.if-i-b.false
-    | else-j-i-via-else-j-i s ↦ lowering_above w g h e s.if-j-i.false
-  ])
-]
+loop-k-preserved c = let w = c.loop-k.invariant in let g = c.loop-k-test.true in let h = ltb-true _ _ c.if-k-vals.true-raw in
+    let e = c.wide-i.ensures.0 in elim c.if-j-i.branch [
+      | then-j-i+then-i-b t ↦ rw t.b-is (lowering_set w g h e t.if-j-i.true)
+      | else-j-i u ↦ rw u.b-is (elim u.else-j-i.branch [
+        | else-j-i-via-then-j-i+else-i-b s ↦ lowering_out w g h e s.if-i-b.false
+        | else-j-i-via-else-j-i s ↦ lowering_above w g h e s.if-j-i.false
+      ])
+    ]
 
 pub shape_of-b-else-k-vals : goal.shape_of-b-else-k-vals
 shape_of-b-else-k-vals c = c.loop-k.invariant.long

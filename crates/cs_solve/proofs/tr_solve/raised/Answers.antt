@@ -14,7 +14,12 @@ pub loop-k-smaller : goal.loop-k-smaller
 loop-k-smaller c = omega (arith, c.loop-k-test.true)
 
 pub loop-k-preserved : goal.loop-k-preserved
-loop-k-preserved c = let w = c.loop-k.invariant in elim c.if-j-i.branch [ then-j-i t ↦ rw t.y-is (raising_set w c.loop-k-test.true c.wide-i.ensures.0 t.if-j-i.true) | else-j-i t ↦ rw t.y-is (raising_above w c.loop-k-test.true c.wide-i.ensures.0 t.if-j-i.false) ]
+loop-k-preserved c = let w = c.loop-k.invariant in
+    elim c.if-j-i.branch [
+      | then-j-i t ↦ rw t.y-is (raising_set w c.loop-k-test.true c.wide-i.ensures.0 t.if-j-i.true)
+      | else-j-i t ↦
+          rw t.y-is (raising_above w c.loop-k-test.true c.wide-i.ensures.0 t.if-j-i.false)
+    ]
 
 pub returns : goal.returns
 returns c = raising_end c.loop-k.invariant c.loop-k-test.false

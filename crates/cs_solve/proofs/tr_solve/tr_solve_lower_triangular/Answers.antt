@@ -13,7 +13,11 @@ pub last_lacking-lacking-requires : goal.last_lacking-lacking-requires
 last_lacking-lacking-requires c = (passed _ _ _ _ _ _ c.judge-refused.ensures c.if-refused-ne0.false).square
 
 pub overflow_cast-result : goal.overflow_cast-result
-overflow_cast-result c = omega (arith, c.if-lacking-ncols.true, (passed _ _ _ _ _ _ c.judge-refused.ensures c.if-refused-ne0.false).square.pattern.cols)
+overflow_cast-result c = omega (
+  arith,
+  c.if-lacking-ncols.true,
+  (passed _ _ _ _ _ _ c.judge-refused.ensures c.if-refused-ne0.false).square.pattern.cols,
+)
 
 pub returns-then-lacking-ncols : goal.returns-then-lacking-ncols
 unfolding transposed transposed_column diagonal lacking_columns lacking

@@ -12,7 +12,8 @@ pub loop-j-init : goal.loop-j-init
 loop-j-init c = reaching_start c.requires.0 c.requires.1 c.mark.ensures
 
 pub overflow_add-count : goal.overflow_add-count
-overflow_add-count c = let h = count_small c.loop-j.invariant c.loop-j-test.true in record { fits = omega (arith, j_small c.loop-j.invariant.valid c.loop-j-test.true) }
+overflow_add-count c = let h = count_small c.loop-j.invariant c.loop-j-test.true in
+    record { fits = omega (arith, j_small c.loop-j.invariant.valid c.loop-j-test.true) }
 
 pub slice_bounds-value_at-count : goal.slice_bounds-value_at-count
 slice_bounds-value_at-count c = (handed c.loop-j.invariant.valid c.loop-j-test.true c.wide-a.ensures.0 c.wide-e.ensures.0).order

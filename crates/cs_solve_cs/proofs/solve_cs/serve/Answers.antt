@@ -21,10 +21,18 @@ pub overflow_cast-result : goal.overflow_cast-result
 overflow_cast-result c = omega (arith, c.if-found-n.true, c.requires.valid.pattern.cols)
 
 pub returns-then-found-n : goal.returns-then-found-n
-returns-then-found-n c = at_10 _ _ _ _ _ _ _ c.requires.valid.pattern.cols c.reach-found.ensures.1 c.if-xi-found.false c.if-xv-found.false _ c.reach-found.ensures.0 c.reach-found.ensures.2 c.if-found-n.true
+returns-then-found-n c = at_10 _ _ _ _ _ _ _ c.requires.valid.pattern.cols c.reach-found.ensures.1 c.if-xi-found.false c.if-xv-found.false _
+    c.reach-found.ensures.0 c.reach-found.ensures.2 c.if-found-n.true
 
 pub forward-requires : goal.forward-requires
-forward-requires c = (c.requires.valid, room _ _ _ c.args.v.now _ c.args.bv.now _ c.requires.valid.pattern.cols c.reach-found.ensures.1 c.if-xi-found.false c.if-xv-found.false _ c.reach-found.ensures.0 (omega (arith, c.reach-found.auto.w, ap length c.requires.clean, length-replicate {A = ℕ} c.args.n 0)) (omega (arith, c.put.auto.x, ap length c.requires.zeros, length-replicate {A = Float} c.args.n none)))
+forward-requires c = (
+  c.requires.valid,
+  room _ _ _ c.args.v.now _ c.args.bv.now _ c.requires.valid.pattern.cols c.reach-found.ensures.1
+      c.if-xi-found.false c.if-xv-found.false _ c.reach-found.ensures.0
+      (omega (arith, c.reach-found.auto.w, ap length c.requires.clean, length-replicate {A = ℕ} c.args.n 0))
+      (omega (arith, c.put.auto.x, ap length c.requires.zeros, length-replicate {A = Float} c.args.n none)),
+)
 
 pub returns : goal.returns
-returns c = at-end _ _ _ _ _ _ _ c.requires.valid.pattern.cols c.reach-found.ensures.1 c.if-xi-found.false c.if-xv-found.false _ c.reach-found.ensures.0 c.reach-found.ensures.2 c.if-found-n.false c.requires.zeros c.put.ensures c.forward.ensures.0 c.forward.ensures.1
+returns c = at-end _ _ _ _ _ _ _ c.requires.valid.pattern.cols c.reach-found.ensures.1 c.if-xi-found.false c.if-xv-found.false _
+    c.reach-found.ensures.0 c.reach-found.ensures.2 c.if-found-n.false c.requires.zeros c.put.ensures c.forward.ensures.0 c.forward.ensures.1

@@ -7,7 +7,8 @@ pub returns-then-refused-ne0 : goal.returns-then-refused-ne0
 returns-then-refused-ne0 c = at_check _ _ _ _ _ _ _ _ c.judge-refused.ensures c.if-refused-ne0.true
 
 pub overflow_add-need : goal.overflow_add-need
-overflow_add-need c = let h = (passed _ _ _ _ _ _ _ c.judge-refused.ensures c.if-refused-ne0.false).square.pattern.cols in record { fits = omega arith }
+overflow_add-need c = let h = (passed _ _ _ _ _ _ _ c.judge-refused.ensures c.if-refused-ne0.false).square.pattern.cols in
+    record { fits = omega arith }
 
 pub returns-then-too_narrow : goal.returns-then-too_narrow
 returns-then-too_narrow c = at_6 _ _ _ _ _ _ _ _ c.judge-refused.ensures c.if-refused-ne0.false c.too_narrow.ensures c.if-too_narrow.true
@@ -31,7 +32,10 @@ pub slice_bounds-serve-end-2 : goal.slice_bounds-serve-end-2
 slice_bounds-serve-end-2 c = let h = x_long _ _ c.too_narrow.ensures c.if-too_narrow.false c.clear_scratch.ensures in omega arith
 
 pub serve-served-requires : goal.serve-served-requires
-serve-served-requires c = ready _ _ c.too_narrow.ensures c.if-too_narrow.false c.clear_scratch.ensures _ _ _ _ _ _ c.judge-refused.ensures c.if-refused-ne0.false
+serve-served-requires c = ready _ _ c.too_narrow.ensures c.if-too_narrow.false c.clear_scratch.ensures _ _ _ _ _ _ c.judge-refused.ensures
+    c.if-refused-ne0.false
 
 pub returns : goal.returns
-returns c = at_served _ _ _ _ _ _ _ _ c.judge-refused.ensures c.if-refused-ne0.false c.too_narrow.ensures c.if-too_narrow.false c.clear_scratch.ensures c.shared_slice_known-5-1.given c.serve-served.new.w c.serve-served.new.x c.serve-served.ensures c.serve-served.auto.w c.serve-served.auto.x c.clear.ensures c.clear_values.ensures
+returns c = at_served _ _ _ _ _ _ _ _ c.judge-refused.ensures c.if-refused-ne0.false c.too_narrow.ensures c.if-too_narrow.false
+    c.clear_scratch.ensures c.shared_slice_known-5-1.given c.serve-served.new.w c.serve-served.new.x c.serve-served.ensures c.serve-served.auto.w
+    c.serve-served.auto.x c.clear.ensures c.clear_values.ensures

@@ -54,10 +54,17 @@ pub offset_bounds-x-j : goal.offset_bounds-x-j
 offset_bounds-x-j c = omega (arith, j_small c.loop-j.invariant.valid c.loop-j-test.true)
 
 pub bounds-x-j : goal.bounds-x-j
-bounds-x-j c = value_in c.loop-j.invariant c.loop-j-test.true (handed c.loop-j.invariant.valid c.loop-j-test.true c.wide-a.ensures.0 c.wide-e.ensures.0) c.value_at-d.ensures c.forward_at.ensures
+bounds-x-j c = value_in c.loop-j.invariant c.loop-j-test.true (handed c.loop-j.invariant.valid c.loop-j-test.true c.wide-a.ensures.0
+    c.wide-e.ensures.0) c.value_at-d.ensures c.forward_at.ensures
 
 pub push-at-requires : goal.push-at-requires
-push-at-requires c = (j_small c.loop-j.invariant.valid c.loop-j-test.true, out_i c.loop-j.invariant c.loop-j-test.true (handed c.loop-j.invariant.valid c.loop-j-test.true c.wide-a.ensures.0 c.wide-e.ensures.0) c.value_at-d.ensures c.forward_at.ensures c.if-w-j-ne0.true, out_v c.loop-j.invariant c.loop-j-test.true (handed c.loop-j.invariant.valid c.loop-j-test.true c.wide-a.ensures.0 c.wide-e.ensures.0) c.value_at-d.ensures c.forward_at.ensures c.if-w-j-ne0.true)
+push-at-requires c = (
+  j_small c.loop-j.invariant.valid c.loop-j-test.true,
+  out_i c.loop-j.invariant c.loop-j-test.true (handed c.loop-j.invariant.valid c.loop-j-test.true c.wide-a.ensures.0 c.wide-e.ensures.0)
+      c.value_at-d.ensures c.forward_at.ensures c.if-w-j-ne0.true,
+  out_v c.loop-j.invariant c.loop-j-test.true (handed c.loop-j.invariant.valid c.loop-j-test.true c.wide-a.ensures.0 c.wide-e.ensures.0)
+      c.value_at-d.ensures c.forward_at.ensures c.if-w-j-ne0.true,
+)
 
 pub loop-j-smaller : goal.loop-j-smaller
 loop-j-smaller c = omega (arith, c.loop-j-test.true)
@@ -66,7 +73,13 @@ pub loop-j-preserved : goal.loop-j-preserved
 loop-j-preserved c =
     let s = c.loop-j.invariant in
     let h = c.loop-j-test.true in
-    elim c.if-w-j-ne0.branch [ then-w-j-ne0 t ↦ rw (t.x-is, t.xi-is, t.xv-is, t.at-is) (serving_on s h (handed s.valid h t.wide-a.ensures.0 t.wide-e.ensures.0) t.value_at-d.ensures t.forward_at.ensures t.if-w-j-ne0.true t.push-at.ensures) | else-w-j-ne0 t ↦ rw (t.x-is, t.xi-is, t.xv-is, t.at-is) (serving_off s h t.if-w-j-ne0.false) ]
+    elim c.if-w-j-ne0.branch [
+      | then-w-j-ne0 t ↦
+          rw (t.x-is, t.xi-is, t.xv-is, t.at-is) (serving_on s h (handed s.valid h t.wide-a.ensures.0 t.wide-e.ensures.0) t.value_at-d.ensures
+          t.forward_at.ensures t.if-w-j-ne0.true t.push-at.ensures)
+      | else-w-j-ne0 t ↦
+          rw (t.x-is, t.xi-is, t.xv-is, t.at-is) (serving_off s h t.if-w-j-ne0.false)
+    ]
 
 pub shape_of-x : goal.shape_of-x
 shape_of-x c = c.loop-j.invariant.steps.long

@@ -14,7 +14,12 @@ pub loop-k-smaller : goal.loop-k-smaller
 loop-k-smaller c = omega (arith, c.loop-k-test.true)
 
 pub loop-k-preserved : goal.loop-k-preserved
-loop-k-preserved c = let w = c.loop-k.invariant in let g = c.loop-k-test.true in let h = ltb-true _ _ c.if-k-vals.true-raw in let e = c.wide-r.ensures.0 in elim c.if-r-x.branch [ then-r-x t ↦ rw t.x-is (putting_set w g h e) | else-r-x t ↦ rw t.x-is (putting_out w g h e t.if-r-x.false) ]
+loop-k-preserved c = let w = c.loop-k.invariant in let g = c.loop-k-test.true in let h = ltb-true _ _ c.if-k-vals.true-raw in
+    let e = c.wide-r.ensures.0 in elim c.if-r-x.branch [
+      | then-r-x t ↦ rw t.x-is (putting_set w g h e)
+      | else-r-x t ↦
+          rw t.x-is (putting_out w g h e t.if-r-x.false)
+    ]
 
 pub shape_of-x-else-k-vals : goal.shape_of-x-else-k-vals
 shape_of-x-else-k-vals c = c.loop-k.invariant.long

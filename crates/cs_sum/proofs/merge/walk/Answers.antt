@@ -2,7 +2,8 @@
 use mathlib.Core.Logic.{inl, inr}
 use native.Mathlib.Omega.{arith}
 use Rattle.cs_columns.proofs.Merging.{first-in, second_in, both_first}
-use Rattle.cs_sum.proofs.Merged.{writing_small, first_i, first_v, first-value, second_i, second_v, second_value, both_i, both_v, both-value, both-value_too, writing_i, writing_v, writing_done, walking_start, walking_first, walking_second, walking_both}
+use Rattle.cs_sum.proofs.Merged.{writing_small, first_i, first_v, first-value, second_i, second_v, second_value, both_i, both_v, both-value}
+use Rattle.cs_sum.proofs.Merged.{both-value_too, writing_i, writing_v, writing_done, walking_start, walking_first, walking_second, walking_both}
 use Rattle.cs_sum.proofs.merge.walk.Goals as goal
 use Rattle.cs_sum.proofs.merge.walk.Goals.{then-ka-ai, else-ka-ai+then-kb-bi, then-r-s, else-r-s+then-s-r, else-r-s+else-s-r}
 
@@ -22,7 +23,11 @@ pub bounds-oi-at : goal.bounds-oi-at
 bounds-oi-at c = first_i _ _ _ _ _ _ c.loop-ka.invariant.writing c.loop-ka.invariant.r_is c.loop-ka.invariant.s_is c.if-r-s.true
 
 pub offset_bounds-av-ka : goal.offset_bounds-av-ka
-offset_bounds-av-ka c = omega (arith, first-value _ _ _ _ _ _ c.loop-ka.invariant.writing c.loop-ka.invariant.r_is c.loop-ka.invariant.s_is c.if-r-s.true)
+offset_bounds-av-ka c = omega (
+  arith,
+  first-value _ _ _ _ _ _ c.loop-ka.invariant.writing c.loop-ka.invariant.r_is c.loop-ka.invariant.s_is
+      c.if-r-s.true,
+)
 
 pub bounds-av-ka : goal.bounds-av-ka
 bounds-av-ka c = first-value _ _ _ _ _ _ c.loop-ka.invariant.writing c.loop-ka.invariant.r_is c.loop-ka.invariant.s_is c.if-r-s.true
@@ -34,7 +39,8 @@ pub bounds-ov-at : goal.bounds-ov-at
 bounds-ov-at c = first_v _ _ _ _ _ _ c.loop-ka.invariant.writing c.loop-ka.invariant.r_is c.loop-ka.invariant.s_is c.if-r-s.true
 
 pub overflow_add-ka : goal.overflow_add-ka
-overflow_add-ka c = let h = first-value _ _ _ _ _ _ c.loop-ka.invariant.writing c.loop-ka.invariant.r_is c.loop-ka.invariant.s_is c.if-r-s.true in record { fits = omega arith }
+overflow_add-ka c = let h = first-value _ _ _ _ _ _ c.loop-ka.invariant.writing c.loop-ka.invariant.r_is c.loop-ka.invariant.s_is c.if-r-s.true in
+    record { fits = omega arith }
 
 pub row_at-r-requires-then-r-s : goal.row_at-r-requires-then-r-s
 row_at-r-requires-then-r-s c = tt
@@ -46,7 +52,11 @@ pub bounds-oi-at-then-s-r : goal.bounds-oi-at-then-s-r
 bounds-oi-at-then-s-r c = second_i _ _ _ _ _ _ c.loop-ka.invariant.writing c.loop-ka.invariant.r_is c.loop-ka.invariant.s_is c.if-s-r.true
 
 pub offset_bounds-bv-kb : goal.offset_bounds-bv-kb
-offset_bounds-bv-kb c = omega (arith, second_value _ _ _ _ _ _ c.loop-ka.invariant.writing c.loop-ka.invariant.r_is c.loop-ka.invariant.s_is c.if-s-r.true)
+offset_bounds-bv-kb c = omega (
+  arith,
+  second_value _ _ _ _ _ _ c.loop-ka.invariant.writing c.loop-ka.invariant.r_is c.loop-ka.invariant.s_is
+      c.if-s-r.true,
+)
 
 pub bounds-bv-kb : goal.bounds-bv-kb
 bounds-bv-kb c = second_value _ _ _ _ _ _ c.loop-ka.invariant.writing c.loop-ka.invariant.r_is c.loop-ka.invariant.s_is c.if-s-r.true
@@ -58,7 +68,8 @@ pub bounds-ov-at-then-s-r : goal.bounds-ov-at-then-s-r
 bounds-ov-at-then-s-r c = second_v _ _ _ _ _ _ c.loop-ka.invariant.writing c.loop-ka.invariant.r_is c.loop-ka.invariant.s_is c.if-s-r.true
 
 pub overflow_add-kb : goal.overflow_add-kb
-overflow_add-kb c = let h = second_value _ _ _ _ _ _ c.loop-ka.invariant.writing c.loop-ka.invariant.r_is c.loop-ka.invariant.s_is c.if-s-r.true in record { fits = omega arith }
+overflow_add-kb c = let h = second_value _ _ _ _ _ _ c.loop-ka.invariant.writing c.loop-ka.invariant.r_is c.loop-ka.invariant.s_is c.if-s-r.true in
+    record { fits = omega arith }
 
 pub row_at-s-requires-then-s-r : goal.row_at-s-requires-then-s-r
 row_at-s-requires-then-s-r c = tt
@@ -67,31 +78,51 @@ pub offset_bounds-oi-at-else-s-r : goal.offset_bounds-oi-at-else-s-r
 offset_bounds-oi-at-else-s-r c = omega (arith, writing_small _ _ _ _ _ _ c.loop-ka.invariant.writing)
 
 pub bounds-oi-at-else-s-r : goal.bounds-oi-at-else-s-r
-bounds-oi-at-else-s-r c = both_i _ _ _ _ _ _ c.loop-ka.invariant.writing c.loop-ka.invariant.r_is c.loop-ka.invariant.s_is c.if-s-r.false c.if-r-s.false (elim c.if-ka-ai.branch [ then-ka-ai t ↦ inl t.if-ka-ai.true | else-ka-ai+then-kb-bi t ↦ inr t.if-kb-bi.true ])
+bounds-oi-at-else-s-r c = both_i _ _ _ _ _ _ c.loop-ka.invariant.writing c.loop-ka.invariant.r_is c.loop-ka.invariant.s_is c.if-s-r.false
+    c.if-r-s.false (elim c.if-ka-ai.branch [ then-ka-ai t ↦ inl t.if-ka-ai.true | else-ka-ai+then-kb-bi t ↦ inr t.if-kb-bi.true ])
 
 pub offset_bounds-av-ka-else-s-r : goal.offset_bounds-av-ka-else-s-r
-offset_bounds-av-ka-else-s-r c = omega (arith, both-value _ _ _ _ _ _ c.loop-ka.invariant.writing c.loop-ka.invariant.r_is c.loop-ka.invariant.s_is c.if-s-r.false c.if-r-s.false (elim c.if-ka-ai.branch [ then-ka-ai t ↦ inl t.if-ka-ai.true | else-ka-ai+then-kb-bi t ↦ inr t.if-kb-bi.true ]))
+offset_bounds-av-ka-else-s-r c = omega (
+  arith,
+  both-value _ _ _ _ _ _ c.loop-ka.invariant.writing c.loop-ka.invariant.r_is c.loop-ka.invariant.s_is
+      c.if-s-r.false c.if-r-s.false (elim c.if-ka-ai.branch [ then-ka-ai t ↦ inl t.if-ka-ai.true | else-ka-ai+then-kb-bi t ↦ inr t.if-kb-bi.true ]),
+)
 
 pub bounds-av-ka-else-s-r : goal.bounds-av-ka-else-s-r
-bounds-av-ka-else-s-r c = both-value _ _ _ _ _ _ c.loop-ka.invariant.writing c.loop-ka.invariant.r_is c.loop-ka.invariant.s_is c.if-s-r.false c.if-r-s.false (elim c.if-ka-ai.branch [ then-ka-ai t ↦ inl t.if-ka-ai.true | else-ka-ai+then-kb-bi t ↦ inr t.if-kb-bi.true ])
+bounds-av-ka-else-s-r c = both-value _ _ _ _ _ _ c.loop-ka.invariant.writing c.loop-ka.invariant.r_is c.loop-ka.invariant.s_is c.if-s-r.false
+    c.if-r-s.false (elim c.if-ka-ai.branch [ then-ka-ai t ↦ inl t.if-ka-ai.true | else-ka-ai+then-kb-bi t ↦ inr t.if-kb-bi.true ])
 
 pub offset_bounds-bv-kb-else-s-r : goal.offset_bounds-bv-kb-else-s-r
-offset_bounds-bv-kb-else-s-r c = omega (arith, both-value_too _ _ _ _ _ _ c.loop-ka.invariant.writing c.loop-ka.invariant.r_is c.loop-ka.invariant.s_is c.if-s-r.false c.if-r-s.false (elim c.if-ka-ai.branch [ then-ka-ai t ↦ inl t.if-ka-ai.true | else-ka-ai+then-kb-bi t ↦ inr t.if-kb-bi.true ]))
+offset_bounds-bv-kb-else-s-r c = omega (
+  arith,
+  both-value_too _ _ _ _ _ _ c.loop-ka.invariant.writing c.loop-ka.invariant.r_is
+      c.loop-ka.invariant.s_is c.if-s-r.false c.if-r-s.false (elim c.if-ka-ai.branch [
+        | then-ka-ai t ↦ inl t.if-ka-ai.true
+        | else-ka-ai+then-kb-bi t ↦
+            inr t.if-kb-bi.true
+      ]),
+)
 
 pub bounds-bv-kb-else-s-r : goal.bounds-bv-kb-else-s-r
-bounds-bv-kb-else-s-r c = both-value_too _ _ _ _ _ _ c.loop-ka.invariant.writing c.loop-ka.invariant.r_is c.loop-ka.invariant.s_is c.if-s-r.false c.if-r-s.false (elim c.if-ka-ai.branch [ then-ka-ai t ↦ inl t.if-ka-ai.true | else-ka-ai+then-kb-bi t ↦ inr t.if-kb-bi.true ])
+bounds-bv-kb-else-s-r c = both-value_too _ _ _ _ _ _ c.loop-ka.invariant.writing c.loop-ka.invariant.r_is c.loop-ka.invariant.s_is c.if-s-r.false
+    c.if-r-s.false (elim c.if-ka-ai.branch [ then-ka-ai t ↦ inl t.if-ka-ai.true | else-ka-ai+then-kb-bi t ↦ inr t.if-kb-bi.true ])
 
 pub offset_bounds-ov-at-else-s-r : goal.offset_bounds-ov-at-else-s-r
 offset_bounds-ov-at-else-s-r c = omega (arith, writing_small _ _ _ _ _ _ c.loop-ka.invariant.writing)
 
 pub bounds-ov-at-else-s-r : goal.bounds-ov-at-else-s-r
-bounds-ov-at-else-s-r c = both_v _ _ _ _ _ _ c.loop-ka.invariant.writing c.loop-ka.invariant.r_is c.loop-ka.invariant.s_is c.if-s-r.false c.if-r-s.false (elim c.if-ka-ai.branch [ then-ka-ai t ↦ inl t.if-ka-ai.true | else-ka-ai+then-kb-bi t ↦ inr t.if-kb-bi.true ])
+bounds-ov-at-else-s-r c = both_v _ _ _ _ _ _ c.loop-ka.invariant.writing c.loop-ka.invariant.r_is c.loop-ka.invariant.s_is c.if-s-r.false
+    c.if-r-s.false (elim c.if-ka-ai.branch [ then-ka-ai t ↦ inl t.if-ka-ai.true | else-ka-ai+then-kb-bi t ↦ inr t.if-kb-bi.true ])
 
 pub overflow_add-ka-else-s-r : goal.overflow_add-ka-else-s-r
-overflow_add-ka-else-s-r c = let h = both-value _ _ _ _ _ _ c.loop-ka.invariant.writing c.loop-ka.invariant.r_is c.loop-ka.invariant.s_is c.if-s-r.false c.if-r-s.false (elim c.if-ka-ai.branch [ then-ka-ai t ↦ inl t.if-ka-ai.true | else-ka-ai+then-kb-bi t ↦ inr t.if-kb-bi.true ]) in record { fits = omega arith }
+overflow_add-ka-else-s-r c = let h = both-value _ _ _ _ _ _ c.loop-ka.invariant.writing c.loop-ka.invariant.r_is c.loop-ka.invariant.s_is
+    c.if-s-r.false c.if-r-s.false (elim c.if-ka-ai.branch [ then-ka-ai t ↦ inl t.if-ka-ai.true | else-ka-ai+then-kb-bi t ↦ inr t.if-kb-bi.true ]) in
+    record { fits = omega arith }
 
 pub overflow_add-kb-else-s-r : goal.overflow_add-kb-else-s-r
-overflow_add-kb-else-s-r c = let h = both-value_too _ _ _ _ _ _ c.loop-ka.invariant.writing c.loop-ka.invariant.r_is c.loop-ka.invariant.s_is c.if-s-r.false c.if-r-s.false (elim c.if-ka-ai.branch [ then-ka-ai t ↦ inl t.if-ka-ai.true | else-ka-ai+then-kb-bi t ↦ inr t.if-kb-bi.true ]) in record { fits = omega arith }
+overflow_add-kb-else-s-r c = let h = both-value_too _ _ _ _ _ _ c.loop-ka.invariant.writing c.loop-ka.invariant.r_is c.loop-ka.invariant.s_is
+    c.if-s-r.false c.if-r-s.false (elim c.if-ka-ai.branch [ then-ka-ai t ↦ inl t.if-ka-ai.true | else-ka-ai+then-kb-bi t ↦ inr t.if-kb-bi.true ]) in
+    record { fits = omega arith }
 
 pub row_at-r-requires-else-s-r : goal.row_at-r-requires-else-s-r
 row_at-r-requires-else-s-r c = tt
@@ -124,7 +155,8 @@ loop-ka-preserved c =
     let w = c.loop-ka.invariant in
     elim c.if-r-s.branch [
       | then-r-s t ↦ rw (t.oi-is, t.ov-is, t.ka-is, t.kb-is, t.r-is, t.s-is) (walking_first _ _ _ _ _ _ w t.if-r-s.true t.row_at-r-then-r-s.ensures)
-      | else-r-s+then-s-r t ↦ rw (t.oi-is, t.ov-is, t.ka-is, t.kb-is, t.r-is, t.s-is) (walking_second _ _ _ _ _ _ w t.if-s-r.true t.row_at-s-then-s-r.ensures)
+      | else-r-s+then-s-r t ↦ rw (t.oi-is, t.ov-is, t.ka-is, t.kb-is, t.r-is, t.s-is)
+          (walking_second _ _ _ _ _ _ w t.if-s-r.true t.row_at-s-then-s-r.ensures)
       | else-r-s+else-s-r t ↦ rw (t.oi-is, t.ov-is, t.ka-is, t.kb-is, t.r-is, t.s-is) (walking_both _ _ _ _ _ _ w t.if-s-r.false t.if-r-s.false
           (elim c.if-ka-ai.branch [ then-ka-ai t ↦ inl t.if-ka-ai.true | else-ka-ai+then-kb-bi t ↦ inr t.if-kb-bi.true ])
           t.row_at-r-else-s-r.ensures t.row_at-s-else-s-r.ensures)

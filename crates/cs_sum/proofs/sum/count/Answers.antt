@@ -52,31 +52,43 @@ pub offset_bounds-ai-a : goal.offset_bounds-ai-a
 offset_bounds-ai-a c = omega (arith, c.wide-a.ensures.1)
 
 pub slice_bounds-count_rows-count : goal.slice_bounds-count_rows-count
-slice_bounds-count_rows-count c = (handed _ _ _ _ _ _ _ _ c.loop-j.invariant.ask c.loop-j-test.true c.wide-a.ensures.0 c.wide-e.ensures.0 c.wide-c.ensures.0 c.wide-d.ensures.0).first.order
+slice_bounds-count_rows-count c = (handed _ _ _ _ _ _ _ _ c.loop-j.invariant.ask c.loop-j-test.true c.wide-a.ensures.0 c.wide-e.ensures.0
+    c.wide-c.ensures.0 c.wide-d.ensures.0).first.order
 
 pub slice_bounds-count_rows-start : goal.slice_bounds-count_rows-start
-slice_bounds-count_rows-start c = (handed _ _ _ _ _ _ _ _ c.loop-j.invariant.ask c.loop-j-test.true c.wide-a.ensures.0 c.wide-e.ensures.0 c.wide-c.ensures.0 c.wide-d.ensures.0).first.order
+slice_bounds-count_rows-start c = (handed _ _ _ _ _ _ _ _ c.loop-j.invariant.ask c.loop-j-test.true c.wide-a.ensures.0 c.wide-e.ensures.0
+    c.wide-c.ensures.0 c.wide-d.ensures.0).first.order
 
 pub slice_bounds-count_rows-end : goal.slice_bounds-count_rows-end
-slice_bounds-count_rows-end c = (handed _ _ _ _ _ _ _ _ c.loop-j.invariant.ask c.loop-j-test.true c.wide-a.ensures.0 c.wide-e.ensures.0 c.wide-c.ensures.0 c.wide-d.ensures.0).first.inside
+slice_bounds-count_rows-end c = (handed _ _ _ _ _ _ _ _ c.loop-j.invariant.ask c.loop-j-test.true c.wide-a.ensures.0 c.wide-e.ensures.0
+    c.wide-c.ensures.0 c.wide-d.ensures.0).first.inside
 
 pub offset_bounds-bi-c : goal.offset_bounds-bi-c
 offset_bounds-bi-c c = omega (arith, c.wide-c.ensures.1)
 
 pub slice_bounds-count_rows-count-in-loop-j : goal.slice_bounds-count_rows-count-in-loop-j
-slice_bounds-count_rows-count-in-loop-j c = (handed _ _ _ _ _ _ _ _ c.loop-j.invariant.ask c.loop-j-test.true c.wide-a.ensures.0 c.wide-e.ensures.0 c.wide-c.ensures.0 c.wide-d.ensures.0).second.order
+slice_bounds-count_rows-count-in-loop-j c =
+    (handed _ _ _ _ _ _ _ _ c.loop-j.invariant.ask c.loop-j-test.true c.wide-a.ensures.0 c.wide-e.ensures.0 c.wide-c.ensures.0
+    c.wide-d.ensures.0).second.order
 
 pub slice_bounds-count_rows-start-in-loop-j : goal.slice_bounds-count_rows-start-in-loop-j
-slice_bounds-count_rows-start-in-loop-j c = (handed _ _ _ _ _ _ _ _ c.loop-j.invariant.ask c.loop-j-test.true c.wide-a.ensures.0 c.wide-e.ensures.0 c.wide-c.ensures.0 c.wide-d.ensures.0).second.order
+slice_bounds-count_rows-start-in-loop-j c =
+    (handed _ _ _ _ _ _ _ _ c.loop-j.invariant.ask c.loop-j-test.true c.wide-a.ensures.0 c.wide-e.ensures.0 c.wide-c.ensures.0
+    c.wide-d.ensures.0).second.order
 
 pub slice_bounds-count_rows-end-in-loop-j : goal.slice_bounds-count_rows-end-in-loop-j
-slice_bounds-count_rows-end-in-loop-j c = (handed _ _ _ _ _ _ _ _ c.loop-j.invariant.ask c.loop-j-test.true c.wide-a.ensures.0 c.wide-e.ensures.0 c.wide-c.ensures.0 c.wide-d.ensures.0).second.inside
+slice_bounds-count_rows-end-in-loop-j c =
+    (handed _ _ _ _ _ _ _ _ c.loop-j.invariant.ask c.loop-j-test.true c.wide-a.ensures.0 c.wide-e.ensures.0 c.wide-c.ensures.0
+    c.wide-d.ensures.0).second.inside
 
 pub count_rows-places-requires : goal.count_rows-places-requires
-count_rows-places-requires c = risen _ _ _ _ _ _ _ _ c.loop-j.invariant.ask c.loop-j-test.true (handed _ _ _ _ _ _ _ _ c.loop-j.invariant.ask c.loop-j-test.true c.wide-a.ensures.0 c.wide-e.ensures.0 c.wide-c.ensures.0 c.wide-d.ensures.0)
+count_rows-places-requires c = risen _ _ _ _ _ _ _ _ c.loop-j.invariant.ask c.loop-j-test.true
+    (handed _ _ _ _ _ _ _ _ c.loop-j.invariant.ask c.loop-j-test.true c.wide-a.ensures.0 c.wide-e.ensures.0 c.wide-c.ensures.0 c.wide-d.ensures.0)
 
 pub overflow_add-places : goal.overflow_add-places
-overflow_add-places c = let h = tallying_small _ _ _ _ _ _ _ _ c.loop-j.invariant c.loop-j-test.true (handed _ _ _ _ _ _ _ _ c.loop-j.invariant.ask c.loop-j-test.true c.wide-a.ensures.0 c.wide-e.ensures.0 c.wide-c.ensures.0 c.wide-d.ensures.0) c.count_rows-places.ensures in record { fits = omega arith }
+overflow_add-places c = let h = tallying_small _ _ _ _ _ _ _ _ c.loop-j.invariant c.loop-j-test.true
+    (handed _ _ _ _ _ _ _ _ c.loop-j.invariant.ask c.loop-j-test.true c.wide-a.ensures.0 c.wide-e.ensures.0 c.wide-c.ensures.0 c.wide-d.ensures.0)
+    c.count_rows-places.ensures in record { fits = omega arith }
 
 pub overflow_step-j : goal.overflow_step-j
 overflow_step-j c = let h = c.loop-j-test.true in let g = c.loop-j.invariant.ask.first.pattern.cols in record { fits = omega arith }
@@ -85,7 +97,9 @@ pub loop-j-smaller : goal.loop-j-smaller
 loop-j-smaller c = omega (arith, c.loop-j-test.true)
 
 pub loop-j-preserved : goal.loop-j-preserved
-loop-j-preserved c = tallying_turn _ _ _ _ _ _ _ _ c.loop-j.invariant c.loop-j-test.true (handed _ _ _ _ _ _ _ _ c.loop-j.invariant.ask c.loop-j-test.true c.wide-a.ensures.0 c.wide-e.ensures.0 c.wide-c.ensures.0 c.wide-d.ensures.0) c.count_rows-places.ensures
+loop-j-preserved c = tallying_turn _ _ _ _ _ _ _ _ c.loop-j.invariant c.loop-j-test.true
+    (handed _ _ _ _ _ _ _ _ c.loop-j.invariant.ask c.loop-j-test.true c.wide-a.ensures.0 c.wide-e.ensures.0 c.wide-c.ensures.0 c.wide-d.ensures.0)
+    c.count_rows-places.ensures
 
 pub returns : goal.returns
 returns c = tallying_done _ _ _ _ _ _ _ _ c.loop-j.invariant c.loop-j-test.false

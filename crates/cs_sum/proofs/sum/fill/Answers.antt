@@ -2,7 +2,8 @@
 use mathlib.Core.Path.{◌∙◌}
 use native.Mathlib.Omega.{arith}
 use lib.ListN.{length-set}
-use Rattle.cs_sum.proofs.Summed.{writing_start, writing_small, writing_p, writing_last, writing_i, writing_v, writing_asks, writing_turn, writing_done, handed}
+use Rattle.cs_sum.proofs.Summed.{writing_start, writing_small, writing_p, writing_last, writing_i, writing_v, writing_asks, writing_turn}
+use Rattle.cs_sum.proofs.Summed.{writing_done, handed}
 use Rattle.cs_sum.proofs.sum.fill.Goals as goal
 
 pub loop-j-init : goal.loop-j-init
@@ -63,52 +64,66 @@ pub offset_bounds-ai-a : goal.offset_bounds-ai-a
 offset_bounds-ai-a c = omega (arith, c.wide-a.ensures.1)
 
 pub slice_bounds-merge-count : goal.slice_bounds-merge-count
-slice_bounds-merge-count c = (handed _ _ _ _ _ _ _ _ c.loop-j.invariant.ask.alike c.loop-j-test.true c.wide-a.ensures.0 c.wide-e.ensures.0 c.wide-c.ensures.0 c.wide-d.ensures.0).first.order
+slice_bounds-merge-count c = (handed _ _ _ _ _ _ _ _ c.loop-j.invariant.ask.alike c.loop-j-test.true c.wide-a.ensures.0 c.wide-e.ensures.0
+    c.wide-c.ensures.0 c.wide-d.ensures.0).first.order
 
 pub slice_bounds-merge-start : goal.slice_bounds-merge-start
-slice_bounds-merge-start c = (handed _ _ _ _ _ _ _ _ c.loop-j.invariant.ask.alike c.loop-j-test.true c.wide-a.ensures.0 c.wide-e.ensures.0 c.wide-c.ensures.0 c.wide-d.ensures.0).first.order
+slice_bounds-merge-start c = (handed _ _ _ _ _ _ _ _ c.loop-j.invariant.ask.alike c.loop-j-test.true c.wide-a.ensures.0 c.wide-e.ensures.0
+    c.wide-c.ensures.0 c.wide-d.ensures.0).first.order
 
 pub slice_bounds-merge-end : goal.slice_bounds-merge-end
-slice_bounds-merge-end c = (handed _ _ _ _ _ _ _ _ c.loop-j.invariant.ask.alike c.loop-j-test.true c.wide-a.ensures.0 c.wide-e.ensures.0 c.wide-c.ensures.0 c.wide-d.ensures.0).first.inside
+slice_bounds-merge-end c = (handed _ _ _ _ _ _ _ _ c.loop-j.invariant.ask.alike c.loop-j-test.true c.wide-a.ensures.0 c.wide-e.ensures.0
+    c.wide-c.ensures.0 c.wide-d.ensures.0).first.inside
 
 pub offset_bounds-av-a : goal.offset_bounds-av-a
 offset_bounds-av-a c = omega (arith, c.wide-a.ensures.1)
 
 pub slice_bounds-merge-count-in-loop-j : goal.slice_bounds-merge-count-in-loop-j
-slice_bounds-merge-count-in-loop-j c = (handed _ _ _ _ _ _ _ _ c.loop-j.invariant.ask.alike c.loop-j-test.true c.wide-a.ensures.0 c.wide-e.ensures.0 c.wide-c.ensures.0 c.wide-d.ensures.0).first.order
+slice_bounds-merge-count-in-loop-j c = (handed _ _ _ _ _ _ _ _ c.loop-j.invariant.ask.alike c.loop-j-test.true c.wide-a.ensures.0 c.wide-e.ensures.0
+    c.wide-c.ensures.0 c.wide-d.ensures.0).first.order
 
 pub slice_bounds-merge-start-in-loop-j : goal.slice_bounds-merge-start-in-loop-j
-slice_bounds-merge-start-in-loop-j c = (handed _ _ _ _ _ _ _ _ c.loop-j.invariant.ask.alike c.loop-j-test.true c.wide-a.ensures.0 c.wide-e.ensures.0 c.wide-c.ensures.0 c.wide-d.ensures.0).first.order
+slice_bounds-merge-start-in-loop-j c = (handed _ _ _ _ _ _ _ _ c.loop-j.invariant.ask.alike c.loop-j-test.true c.wide-a.ensures.0 c.wide-e.ensures.0
+    c.wide-c.ensures.0 c.wide-d.ensures.0).first.order
 
 pub slice_bounds-merge-end-in-loop-j : goal.slice_bounds-merge-end-in-loop-j
-slice_bounds-merge-end-in-loop-j c = (handed _ _ _ _ _ _ _ _ c.loop-j.invariant.ask.alike c.loop-j-test.true c.wide-a.ensures.0 c.wide-e.ensures.0 c.wide-c.ensures.0 c.wide-d.ensures.0).a_vals
+slice_bounds-merge-end-in-loop-j c = (handed _ _ _ _ _ _ _ _ c.loop-j.invariant.ask.alike c.loop-j-test.true c.wide-a.ensures.0 c.wide-e.ensures.0
+    c.wide-c.ensures.0 c.wide-d.ensures.0).a_vals
 
 pub offset_bounds-bi-c : goal.offset_bounds-bi-c
 offset_bounds-bi-c c = omega (arith, c.wide-c.ensures.1)
 
 pub slice_bounds-merge-count-in-loop-j-2 : goal.slice_bounds-merge-count-in-loop-j-2
-slice_bounds-merge-count-in-loop-j-2 c = (handed _ _ _ _ _ _ _ _ c.loop-j.invariant.ask.alike c.loop-j-test.true c.wide-a.ensures.0 c.wide-e.ensures.0 c.wide-c.ensures.0 c.wide-d.ensures.0).second.order
+slice_bounds-merge-count-in-loop-j-2 c = (handed _ _ _ _ _ _ _ _ c.loop-j.invariant.ask.alike c.loop-j-test.true c.wide-a.ensures.0
+    c.wide-e.ensures.0 c.wide-c.ensures.0 c.wide-d.ensures.0).second.order
 
 pub slice_bounds-merge-start-in-loop-j-2 : goal.slice_bounds-merge-start-in-loop-j-2
-slice_bounds-merge-start-in-loop-j-2 c = (handed _ _ _ _ _ _ _ _ c.loop-j.invariant.ask.alike c.loop-j-test.true c.wide-a.ensures.0 c.wide-e.ensures.0 c.wide-c.ensures.0 c.wide-d.ensures.0).second.order
+slice_bounds-merge-start-in-loop-j-2 c = (handed _ _ _ _ _ _ _ _ c.loop-j.invariant.ask.alike c.loop-j-test.true c.wide-a.ensures.0
+    c.wide-e.ensures.0 c.wide-c.ensures.0 c.wide-d.ensures.0).second.order
 
 pub slice_bounds-merge-end-in-loop-j-2 : goal.slice_bounds-merge-end-in-loop-j-2
-slice_bounds-merge-end-in-loop-j-2 c = (handed _ _ _ _ _ _ _ _ c.loop-j.invariant.ask.alike c.loop-j-test.true c.wide-a.ensures.0 c.wide-e.ensures.0 c.wide-c.ensures.0 c.wide-d.ensures.0).second.inside
+slice_bounds-merge-end-in-loop-j-2 c = (handed _ _ _ _ _ _ _ _ c.loop-j.invariant.ask.alike c.loop-j-test.true c.wide-a.ensures.0 c.wide-e.ensures.0
+    c.wide-c.ensures.0 c.wide-d.ensures.0).second.inside
 
 pub offset_bounds-bv-c : goal.offset_bounds-bv-c
 offset_bounds-bv-c c = omega (arith, c.wide-c.ensures.1)
 
 pub slice_bounds-merge-count-in-loop-j-3 : goal.slice_bounds-merge-count-in-loop-j-3
-slice_bounds-merge-count-in-loop-j-3 c = (handed _ _ _ _ _ _ _ _ c.loop-j.invariant.ask.alike c.loop-j-test.true c.wide-a.ensures.0 c.wide-e.ensures.0 c.wide-c.ensures.0 c.wide-d.ensures.0).second.order
+slice_bounds-merge-count-in-loop-j-3 c = (handed _ _ _ _ _ _ _ _ c.loop-j.invariant.ask.alike c.loop-j-test.true c.wide-a.ensures.0
+    c.wide-e.ensures.0 c.wide-c.ensures.0 c.wide-d.ensures.0).second.order
 
 pub slice_bounds-merge-start-in-loop-j-3 : goal.slice_bounds-merge-start-in-loop-j-3
-slice_bounds-merge-start-in-loop-j-3 c = (handed _ _ _ _ _ _ _ _ c.loop-j.invariant.ask.alike c.loop-j-test.true c.wide-a.ensures.0 c.wide-e.ensures.0 c.wide-c.ensures.0 c.wide-d.ensures.0).second.order
+slice_bounds-merge-start-in-loop-j-3 c = (handed _ _ _ _ _ _ _ _ c.loop-j.invariant.ask.alike c.loop-j-test.true c.wide-a.ensures.0
+    c.wide-e.ensures.0 c.wide-c.ensures.0 c.wide-d.ensures.0).second.order
 
 pub slice_bounds-merge-end-in-loop-j-3 : goal.slice_bounds-merge-end-in-loop-j-3
-slice_bounds-merge-end-in-loop-j-3 c = (handed _ _ _ _ _ _ _ _ c.loop-j.invariant.ask.alike c.loop-j-test.true c.wide-a.ensures.0 c.wide-e.ensures.0 c.wide-c.ensures.0 c.wide-d.ensures.0).b_vals
+slice_bounds-merge-end-in-loop-j-3 c = (handed _ _ _ _ _ _ _ _ c.loop-j.invariant.ask.alike c.loop-j-test.true c.wide-a.ensures.0 c.wide-e.ensures.0
+    c.wide-c.ensures.0 c.wide-d.ensures.0).b_vals
 
 pub merge-at-requires : goal.merge-at-requires
-merge-at-requires c = writing_asks _ _ _ _ _ _ _ _ c.loop-j.invariant c.loop-j-test.true (handed _ _ _ _ _ _ _ _ c.loop-j.invariant.ask.alike c.loop-j-test.true c.wide-a.ensures.0 c.wide-e.ensures.0 c.wide-c.ensures.0 c.wide-d.ensures.0)
+merge-at-requires c = writing_asks _ _ _ _ _ _ _ _ c.loop-j.invariant c.loop-j-test.true
+    (handed _ _ _ _ _ _ _ _ c.loop-j.invariant.ask.alike c.loop-j-test.true c.wide-a.ensures.0 c.wide-e.ensures.0 c.wide-c.ensures.0
+    c.wide-d.ensures.0)
 
 pub overflow_step-j : goal.overflow_step-j
 overflow_step-j c = let h = c.loop-j-test.true in let g = c.loop-j.invariant.ask.alike.first.pattern.cols in record { fits = omega arith }
@@ -117,7 +132,9 @@ pub loop-j-smaller : goal.loop-j-smaller
 loop-j-smaller c = omega (arith, c.loop-j-test.true)
 
 pub loop-j-preserved : goal.loop-j-preserved
-loop-j-preserved c = writing_turn _ _ _ _ _ _ _ _ c.loop-j.invariant c.loop-j-test.true (handed _ _ _ _ _ _ _ _ c.loop-j.invariant.ask.alike c.loop-j-test.true c.wide-a.ensures.0 c.wide-e.ensures.0 c.wide-c.ensures.0 c.wide-d.ensures.0) c.merge-at.ensures.0 c.merge-at.ensures.1 c.merge-at.ensures.2
+loop-j-preserved c = writing_turn _ _ _ _ _ _ _ _ c.loop-j.invariant c.loop-j-test.true
+    (handed _ _ _ _ _ _ _ _ c.loop-j.invariant.ask.alike c.loop-j-test.true c.wide-a.ensures.0 c.wide-e.ensures.0 c.wide-c.ensures.0
+    c.wide-d.ensures.0) c.merge-at.ensures.0 c.merge-at.ensures.1 c.merge-at.ensures.2
 
 pub overflow_cast-op-2 : goal.overflow_cast-op-2
 overflow_cast-op-2 c = omega (arith, writing_small _ _ _ _ _ _ _ _ c.loop-j.invariant)

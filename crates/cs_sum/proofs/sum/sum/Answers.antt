@@ -17,10 +17,13 @@ pub lacks_room-requires : goal.lacks_room-requires
 lacks_room-requires c = alike _ _ _ _ _ _ _ _ _ _ (stored [] [] []) c.differ-apart.ensures c.check_two-refused.ensures c.if-refused-ne0.false
 
 pub returns-then-lacks_room : goal.returns-then-lacks_room
-returns-then-lacks_room c = at_7 _ _ _ _ _ _ _ _ _ _ _ c.differ-apart.ensures c.check_two-refused.ensures c.if-refused-ne0.false c.lacks_room.ensures c.if-lacks_room.true
+returns-then-lacks_room c = at_7 _ _ _ _ _ _ _ _ _ _ _ c.differ-apart.ensures c.check_two-refused.ensures c.if-refused-ne0.false
+    c.lacks_room.ensures c.if-lacks_room.true
 
 pub fill-requires : goal.fill-requires
-fill-requires c = ready _ _ _ _ _ _ _ _ _ _ _ c.differ-apart.ensures c.check_two-refused.ensures c.if-refused-ne0.false c.lacks_room.ensures c.if-lacks_room.false
+fill-requires c = ready _ _ _ _ _ _ _ _ _ _ _ c.differ-apart.ensures c.check_two-refused.ensures c.if-refused-ne0.false c.lacks_room.ensures
+    c.if-lacks_room.false
 
 pub returns : goal.returns
-returns c = at-end _ _ _ _ _ _ _ _ _ _ _ c.differ-apart.ensures c.check_two-refused.ensures c.if-refused-ne0.false c.lacks_room.ensures c.if-lacks_room.false c.fill.ensures
+returns c = at-end _ _ _ _ _ _ _ _ _ _ _ c.differ-apart.ensures c.check_two-refused.ensures c.if-refused-ne0.false c.lacks_room.ensures
+    c.if-lacks_room.false c.fill.ensures

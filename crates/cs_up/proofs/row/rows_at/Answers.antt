@@ -18,7 +18,8 @@ pub row_at-t-requires : goal.row_at-t-requires
 row_at-t-requires c = row_reads c.loop-q.invariant c.loop-q-test.true c.wide-j.ensures.0 c.if-j-k.true c.wide.ensures.0 c.wide-then-j-k.ensures.0
 
 pub overflow_add-next : goal.overflow_add-next
-overflow_add-next c = let h = place_few c.loop-q.invariant c.loop-q-test.true c.wide-j.ensures.0 c.if-j-k.true refl refl in record { fits = omega arith }
+overflow_add-next c = let h = place_few c.loop-q.invariant c.loop-q-test.true c.wide-j.ensures.0 c.if-j-k.true refl refl in
+    record { fits = omega arith }
 
 pub bounds-next-j-then-j-k : goal.bounds-next-j-then-j-k
 bounds-next-j-then-j-k c = row-in-next c.loop-q.invariant c.loop-q-test.true c.wide-j.ensures.0 c.if-j-k.true refl refl
@@ -28,7 +29,12 @@ loop-q-smaller c = omega (arith, c.loop-q-test.true)
 
 pub loop-q-preserved : goal.loop-q-preserved
 loop-q-preserved c = let w = c.loop-q.invariant in let h = c.loop-q-test.true in let f = c.wide-j.ensures.0 in
-    elim c.if-j-k.branch [ then-j-k t ↦ rowing_next w h f t.if-j-k.true t.wide.ensures.0 t.wide-then-j-k.ensures.0 t.row_at-t.ensures.0 (t.lx-is ∙ t.row_at-t.ensures.1) t.next-is (t.x-is ∙ t.row_at-t.ensures.2) t.pivot-is | else-j-k u ↦ rw (u.lx-is, u.next-is, u.x-is, u.pivot-is) (rowing_pass w h f u.if-j-k.false) ]
+    elim c.if-j-k.branch [
+      | then-j-k t ↦ rowing_next w h f t.if-j-k.true t.wide.ensures.0 t.wide-then-j-k.ensures.0 t.row_at-t.ensures.0 (t.lx-is ∙
+          t.row_at-t.ensures.1) t.next-is (t.x-is ∙ t.row_at-t.ensures.2) t.pivot-is
+      | else-j-k u ↦
+          rw (u.lx-is, u.next-is, u.x-is, u.pivot-is) (rowing_pass w h f u.if-j-k.false)
+    ]
 
 pub shape_of-lx : goal.shape_of-lx
 shape_of-lx c = c.loop-q.invariant.lx_long

@@ -46,7 +46,9 @@ pub slice_bounds-rows_at-end : goal.slice_bounds-rows_at-end
 slice_bounds-rows_at-end c = upper_inside c.requires.ready c.requires.here c.wide-b.ensures.0 c.wide-f.ensures.0
 
 pub rows_at-requires : goal.rows_at-requires
-rows_at-requires c = column-rows c.requires.ready c.requires.here c.wide-a.ensures.0 c.wide-e.ensures.0 c.start-first.ensures c.wide-b.ensures.0 c.wide-f.ensures.0 c.requires.stands
+rows_at-requires c = column-rows c.requires.ready c.requires.here c.wide-a.ensures.0 c.wide-e.ensures.0 c.start-first.ensures c.wide-b.ensures.0
+    c.wide-f.ensures.0 c.requires.stands
 
 pub returns : goal.returns
-returns c = column-gone c.requires.ready c.requires.here c.wide-a.ensures.0 c.wide-e.ensures.0 c.start-first.ensures c.wide-b.ensures.0 c.wide-f.ensures.0 c.rows_at.ensures
+returns c = column-gone c.requires.ready c.requires.here c.wide-a.ensures.0 c.wide-e.ensures.0 c.start-first.ensures c.wide-b.ensures.0
+    c.wide-f.ensures.0 c.rows_at.ensures

@@ -10,7 +10,9 @@ pub fill-answer-requires : goal.fill-answer-requires
 fill-answer-requires c = call_fills _ _ _ _ _ _ _ _ _ _ _ _ _ _ _ c.judge-number.ensures c.if-number-ne0.false
 
 pub overflow_add-ncols : goal.overflow_add-ncols
-overflow_add-ncols c = let h = small _ _ _ _ _ _ _ _ _ _ c.args.lx.now _ _ _ _ c.judge-number.ensures c.if-number-ne0.false in record { fits = omega arith }
+overflow_add-ncols c = let h = small _ _ _ _ _ _ _ _ _ _ c.args.lx.now _ _ _ _ c.judge-number.ensures c.if-number-ne0.false in
+    record { fits = omega arith }
 
 pub returns : goal.returns
-returns c = at_done _ _ _ _ _ _ _ _ _ _ _ _ _ _ _ c.judge-number.ensures c.if-number-ne0.false c.fill-answer.new.next c.fill-answer.new.x c.fill-answer.ensures c.clear_scratch.ensures
+returns c = at_done _ _ _ _ _ _ _ _ _ _ _ _ _ _ _ c.judge-number.ensures c.if-number-ne0.false c.fill-answer.new.next c.fill-answer.new.x
+    c.fill-answer.ensures c.clear_scratch.ensures

@@ -13,13 +13,15 @@ pub returns-then-not-pivot : goal.returns-then-not-pivot
 returns-then-not-pivot c = factoring_stop c.loop-k.invariant c.loop-k-test.true c.column-pivot.ensures c.if-not-pivot.true-raw
 
 pub close-requires : goal.close-requires
-close-requires c = factoring_closes c.loop-k.invariant c.loop-k-test.true c.column-pivot.ensures c.if-not-pivot.false-raw c.column-pivot.auto.lx c.column-pivot.auto.next
+close-requires c = factoring_closes c.loop-k.invariant c.loop-k-test.true c.column-pivot.ensures c.if-not-pivot.false-raw c.column-pivot.auto.lx
+    c.column-pivot.auto.next
 
 pub loop-k-smaller : goal.loop-k-smaller
 loop-k-smaller c = omega (arith, c.loop-k-test.true)
 
 pub loop-k-preserved : goal.loop-k-preserved
-loop-k-preserved c = factoring-turn c.loop-k.invariant c.loop-k-test.true c.column-pivot.ensures c.if-not-pivot.false-raw c.column-pivot.auto.lx c.column-pivot.auto.next c.column-pivot.auto.x c.close.ensures
+loop-k-preserved c = factoring-turn c.loop-k.invariant c.loop-k-test.true c.column-pivot.ensures c.if-not-pivot.false-raw c.column-pivot.auto.lx
+    c.column-pivot.auto.next c.column-pivot.auto.x c.close.ensures
 
 pub shape_of-lx : goal.shape_of-lx
 shape_of-lx c = c.loop-k.invariant.lx_long

@@ -18,4 +18,5 @@ pub factor-answer-requires : goal.factor-answer-requires
 factor-answer-requires c = fill_asks c.requires c.wide-t.ensures.0
 
 pub returns : goal.returns
-returns c = filled c.requires c.wide-t.ensures.0 c.factor-answer.ensures c.factor-answer.auto.lx c.factor-answer.new.next c.factor-answer.new.x c.factor-answer.auto.next c.factor-answer.auto.x c.blank.ensures
+returns c = filled c.requires c.wide-t.ensures.0 c.factor-answer.ensures c.factor-answer.auto.lx c.factor-answer.new.next c.factor-answer.new.x
+    c.factor-answer.auto.next c.factor-answer.auto.x c.blank.ensures

@@ -9,4 +9,9 @@ use Rattle.job.proofs.Engines.{out_of}
 use Rattle.job.proofs.factor.by_up.Goals as goal
 
 pub returns : goal.returns
-returns c = (c.decompose_up_looking.ensures.0, out_of c.decompose_up_looking.result.number (needed (pattern c.args.n c.args.n c.args.p.now c.args.i.now)) (written (entries (upper (columns (pattern c.args.n c.args.n c.args.p.now c.args.i.now)))) (up (matrix c.args.n c.args.n c.args.p.now c.args.i.now c.args.v.now)) c.args.lx.now) c.args.lx.now scratch_room c.decompose_up_looking.ensures.1)
+returns c = (
+  c.decompose_up_looking.ensures.0,
+  out_of c.decompose_up_looking.result.number (needed (pattern c.args.n c.args.n c.args.p.now c.args.i.now))
+      (written (entries (upper (columns (pattern c.args.n c.args.n c.args.p.now c.args.i.now))))
+      (up (matrix c.args.n c.args.n c.args.p.now c.args.i.now c.args.v.now)) c.args.lx.now) c.args.lx.now scratch_room c.decompose_up_looking.ensures.1,
+)

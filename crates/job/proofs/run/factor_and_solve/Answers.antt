@@ -27,25 +27,56 @@ pub slice_bounds-factor-end-3 : goal.slice_bounds-factor-end-3
 slice_bounds-factor-end-3 c = sym (length-take-le _ _ (omega (arith, c.requires.0.values, c.wide-stored.ensures.0)))
 
 pub returns-then-f-ne0 : goal.returns-then-f-ne0
-returns-then-f-ne0 c = run-refused c.args.n c.args.p.now c.args.i.now c.args.v.now (analysis c.args.tree.now c.args.up.now c.args.ui.now c.args.lp.now c.args.li.now) c.requires.0 c.requires.1 c.requires.2 c.args.engine c.args.b.now c.wide-stored.ensures.0 c.factor-f.result _ c.factor-f.ensures c.if-f-ne0.true
+returns-then-f-ne0 c = run-refused c.args.n c.args.p.now c.args.i.now c.args.v.now
+    (analysis c.args.tree.now c.args.up.now c.args.ui.now c.args.lp.now c.args.li.now) c.requires.0 c.requires.1 c.requires.2 c.args.engine
+    c.args.b.now c.wide-stored.ensures.0 c.factor-f.result _ c.factor-f.ensures c.if-f-ne0.true
 
 pub offset_bounds-lp-n : goal.offset_bounds-lp-n
 offset_bounds-lp-n c = omega (arith, c.requires.0.pointers, c.requires.1)
 
 pub bounds-lp-n : goal.bounds-lp-n
-bounds-lp-n c = run_lp c.args.n c.args.p.now c.args.i.now c.args.v.now (analysis c.args.tree.now c.args.up.now c.args.ui.now c.args.lp.now c.args.li.now) c.requires.0 c.requires.1 c.requires.2
+bounds-lp-n c = run_lp c.args.n c.args.p.now c.args.i.now c.args.v.now (analysis c.args.tree.now c.args.up.now c.args.ui.now c.args.lp.now
+    c.args.li.now) c.requires.0 c.requires.1 c.requires.2
 
 pub slice_bounds-solve-end : goal.slice_bounds-solve-end
-slice_bounds-solve-end c = sym (length-take-le _ _ (omega (arith, run_lp c.args.n c.args.p.now c.args.i.now c.args.v.now (analysis c.args.tree.now c.args.up.now c.args.ui.now c.args.lp.now c.args.li.now) c.requires.0 c.requires.1 c.requires.2)))
+slice_bounds-solve-end c = sym (length-take-le _ _
+    (omega (
+      arith,
+      run_lp c.args.n c.args.p.now c.args.i.now c.args.v.now (analysis c.args.tree.now c.args.up.now c.args.ui.now c.args.lp.now
+          c.args.li.now) c.requires.0 c.requires.1 c.requires.2,
+    )))
 
 pub slice_bounds-solve-end-2 : goal.slice_bounds-solve-end-2
-slice_bounds-solve-end-2 c = sym (length-take-le _ _ (omega (arith, (run_room c.args.n c.args.p.now c.args.i.now c.args.v.now (analysis c.args.tree.now c.args.up.now c.args.ui.now c.args.lp.now c.args.li.now) c.requires.0 c.requires.1 c.requires.2).0, c.wide-entries.ensures.0)))
+slice_bounds-solve-end-2 c = sym (length-take-le _ _
+    (omega (
+      arith,
+      (run_room c.args.n c.args.p.now c.args.i.now c.args.v.now (analysis c.args.tree.now c.args.up.now c.args.ui.now c.args.lp.now
+          c.args.li.now) c.requires.0 c.requires.1 c.requires.2).0,
+      c.wide-entries.ensures.0,
+    )))
 
 pub slice_bounds-lx-end : goal.slice_bounds-lx-end
-slice_bounds-lx-end c = omega (arith, (run_room c.args.n c.args.p.now c.args.i.now c.args.v.now (analysis c.args.tree.now c.args.up.now c.args.ui.now c.args.lp.now c.args.li.now) c.requires.0 c.requires.1 c.requires.2).1, c.wide-entries.ensures.0, c.factor-f.auto.lx, length-replicate 2048 none)
+slice_bounds-lx-end c = omega (
+  arith,
+  (run_room c.args.n c.args.p.now c.args.i.now c.args.v.now
+      (analysis c.args.tree.now c.args.up.now c.args.ui.now c.args.lp.now c.args.li.now) c.requires.0 c.requires.1 c.requires.2).1,
+  c.wide-entries.ensures.0,
+  c.factor-f.auto.lx,
+  length-replicate 2048 none,
+)
 
 pub slice_bounds-solve-end-3 : goal.slice_bounds-solve-end-3
-slice_bounds-solve-end-3 c = sym (length-take-le _ _ (omega (arith, (run_room c.args.n c.args.p.now c.args.i.now c.args.v.now (analysis c.args.tree.now c.args.up.now c.args.ui.now c.args.lp.now c.args.li.now) c.requires.0 c.requires.1 c.requires.2).1, c.wide-entries.ensures.0, c.factor-f.auto.lx, length-replicate 2048 none)))
+slice_bounds-solve-end-3 c = sym (length-take-le _ _
+    (omega (
+      arith,
+      (run_room c.args.n c.args.p.now c.args.i.now c.args.v.now (analysis c.args.tree.now c.args.up.now c.args.ui.now c.args.lp.now
+          c.args.li.now) c.requires.0 c.requires.1 c.requires.2).1,
+      c.wide-entries.ensures.0,
+      c.factor-f.auto.lx,
+      length-replicate 2048 none,
+    )))
 
 pub returns : goal.returns
-returns c = run-done c.args.n c.args.p.now c.args.i.now c.args.v.now (analysis c.args.tree.now c.args.up.now c.args.ui.now c.args.lp.now c.args.li.now) c.requires.0 c.requires.1 c.requires.2 c.args.engine c.args.b.now c.wide-stored.ensures.0 c.factor-f.result _ c.factor-f.ensures c.if-f-ne0.false c.wide-entries.ensures.0 c.solve.ensures
+returns c = run-done c.args.n c.args.p.now c.args.i.now c.args.v.now (analysis c.args.tree.now c.args.up.now c.args.ui.now c.args.lp.now
+    c.args.li.now) c.requires.0 c.requires.1 c.requires.2 c.args.engine c.args.b.now c.wide-stored.ensures.0 c.factor-f.result _ c.factor-f.ensures
+    c.if-f-ne0.false c.wide-entries.ensures.0 c.solve.ensures

@@ -17,4 +17,5 @@ pub returns-in-Go : goal.returns-in-Go
 returns-in-Go c = by_kind c.args.h (arrays c.args.rows.now c.args.columns.now [] []) c.in-Go.is (c.go_fault.ensures.is _ c.requires.0)
 
 pub returns-in-Wrong : goal.returns-in-Wrong
-returns-in-Wrong c = by_kind c.args.h (arrays c.args.rows.now c.args.columns.now [] []) c.in-Wrong.is (wrong_is c.args.h (arrays c.args.rows.now c.args.columns.now [] []))
+returns-in-Wrong c = by_kind c.args.h (arrays c.args.rows.now c.args.columns.now [] []) c.in-Wrong.is
+    (wrong_is c.args.h (arrays c.args.rows.now c.args.columns.now [] []))

@@ -13,7 +13,9 @@ pub returns-in-1 : goal.returns-in-1
 returns-in-1 c = go_sound _ _ c.if-h-ne1.false c.if-h.false c.in-1.if-engine-lt1-own.false (omega (arith, c.in-1.if-engine-lt3-own.true))
 
 pub returns-in_default : goal.returns-in_default
-returns-in_default c = go_bad _ _ c.if-h-ne1.false c.if-h.false (λ e. omega (arith, c.in_default.if-engine-lt1-own.true, e)) (λ e. omega (arith, c.in_default.if-engine-lt1-own.true, e))
+returns-in_default c = go_bad _ _ c.if-h-ne1.false c.if-h.false (λ e. omega (arith, c.in_default.if-engine-lt1-own.true, e))
+    (λ e. omega (arith, c.in_default.if-engine-lt1-own.true, e))
 
 pub returns-in_default-2 : goal.returns-in_default-2
-returns-in_default-2 c = go_bad _ _ c.if-h-ne1.false c.if-h.false (λ e. omega (arith, c.in_default.if-engine-lt3-own.false, e)) (λ e. omega (arith, c.in_default.if-engine-lt3-own.false, e))
+returns-in_default-2 c = go_bad _ _ c.if-h-ne1.false c.if-h.false (λ e. omega (arith, c.in_default.if-engine-lt3-own.false, e))
+    (λ e. omega (arith, c.in_default.if-engine-lt3-own.false, e))

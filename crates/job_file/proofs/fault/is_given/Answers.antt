@@ -8,7 +8,8 @@ pub loop-k-init : goal.loop-k-init
 loop-k-init c = seeking_start _ _ _ _ _
 
 pub returns-then-columns-k : goal.returns-then-columns-k
-returns-then-columns-k c = seeking_found c.requires.0 c.requires.1 c.loop-k.invariant c.loop-k-test.true c.if-rows-k.true (eqb-true _ _ c.if-columns-k.true-raw)
+returns-then-columns-k c = seeking_found c.requires.0 c.requires.1 c.loop-k.invariant c.loop-k-test.true c.if-rows-k.true
+    (eqb-true _ _ c.if-columns-k.true-raw)
 
 pub loop-k-preserved : goal.loop-k-preserved
 loop-k-preserved c = elim c.else-rows-k.branch [

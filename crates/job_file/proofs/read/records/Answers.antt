@@ -30,16 +30,27 @@ pub returns-then-number-ne0 : goal.returns-then-number-ne0
 returns-then-number-ne0 c = going_stop c.loop-at.invariant c.loop-at-test.true c.record_at-r.ensures c.fault-number.ensures c.if-number-ne0.true
 
 pub keep-h-requires : goal.keep-h-requires
-keep-h-requires c = (c.loop-at.invariant.fits, going_sound c.loop-at.invariant (told c.record_at-r.result) c.fault-number.ensures c.if-number-ne0.false)
+keep-h-requires c = (
+  c.loop-at.invariant.fits,
+  going_sound c.loop-at.invariant (told c.record_at-r.result) c.fault-number.ensures
+      c.if-number-ne0.false,
+)
 
 pub overflow_add-at : goal.overflow_add-at
-overflow_add-at c = omega (arith, (within_file c.args.s.now c.loop-at.at c.loop-at-test.true c.record_at-r.ensures c.size_of-at.ensures).0, c.well_formed.0)
+overflow_add-at c = omega (
+  arith,
+  (within_file c.args.s.now c.loop-at.at c.loop-at-test.true c.record_at-r.ensures c.size_of-at.ensures).0,
+  c.well_formed.0,
+)
 
 pub loop-at-smaller : goal.loop-at-smaller
-loop-at-smaller c = let w = within_file c.args.s.now c.loop-at.at c.loop-at-test.true c.record_at-r.ensures c.size_of-at.ensures in omega (arith, w.0, w.1)
+loop-at-smaller c = let w = within_file c.args.s.now c.loop-at.at c.loop-at-test.true c.record_at-r.ensures c.size_of-at.ensures in
+    omega (arith, w.0, w.1)
 
 pub loop-at-preserved : goal.loop-at-preserved
-loop-at-preserved c = going_turn c.loop-at.invariant c.loop-at-test.true c.record_at-r.ensures (going_sound c.loop-at.invariant (told c.record_at-r.result) c.fault-number.ensures c.if-number-ne0.false) c.keep-h.ensures c.size_of-at.ensures c.keep-h.auto.rows c.keep-h.auto.columns c.keep-h.auto.values c.keep-h.auto.right
+loop-at-preserved c = going_turn c.loop-at.invariant c.loop-at-test.true c.record_at-r.ensures
+    (going_sound c.loop-at.invariant (told c.record_at-r.result) c.fault-number.ensures c.if-number-ne0.false) c.keep-h.ensures c.size_of-at.ensures
+    c.keep-h.auto.rows c.keep-h.auto.columns c.keep-h.auto.values c.keep-h.auto.right
 
 pub shape_of-rows-then-h-ne2 : goal.shape_of-rows-then-h-ne2
 shape_of-rows-then-h-ne2 c = c.loop-at.invariant.rows_long

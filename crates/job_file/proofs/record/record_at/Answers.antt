@@ -16,17 +16,21 @@ pub returns-then-left-lt14 : goal.returns-then-left-lt14
 returns-then-left-lt14 c = wrong_RH c.args.s.now c.args.at c.u16_at.ensures.0 c.in-18514.is c.if-left-lt14.true
 
 pub returns-else-left-lt10 : goal.returns-else-left-lt10
-returns-else-left-lt10 c = is-SZ c.args.s.now c.args.at c.u16_at.ensures.0 c.in-23123.is c.if-left-lt10.false c.u32_at.ensures c.u32_at-in-23123.ensures
+returns-else-left-lt10 c = is-SZ c.args.s.now c.args.at c.u16_at.ensures.0 c.in-23123.is c.if-left-lt10.false c.u32_at.ensures
+    c.u32_at-in-23123.ensures
 
 pub returns-else-left-lt18 : goal.returns-else-left-lt18
-returns-else-left-lt18 c = is-EN c.args.s.now c.args.at c.u16_at.ensures.0 c.in-20037.is c.if-left-lt18.false c.u32_at-in-20037.ensures c.u32_at-in-20037-2.ensures c.u64_at.ensures
+returns-else-left-lt18 c = is-EN c.args.s.now c.args.at c.u16_at.ensures.0 c.in-20037.is c.if-left-lt18.false c.u32_at-in-20037.ensures
+    c.u32_at-in-20037-2.ensures c.u64_at.ensures
 
 pub returns-else-left-lt14 : goal.returns-else-left-lt14
-returns-else-left-lt14 c = is-RH c.args.s.now c.args.at c.u16_at.ensures.0 c.in-18514.is c.if-left-lt14.false c.u32_at-in-18514.ensures c.u64_at-in-18514.ensures
+returns-else-left-lt14 c = is-RH c.args.s.now c.args.at c.u16_at.ensures.0 c.in-18514.is c.if-left-lt14.false c.u32_at-in-18514.ensures
+    c.u64_at-in-18514.ensures
 
 pub returns-in-20295 : goal.returns-in-20295
 returns-in-20295 c = is-GO c.args.s.now c.args.at c.u16_at.ensures.0 c.in-20295.is c.if-left-lt3.false c.u8_at.ensures.0
 
 pub returns-in_default : goal.returns-in_default
 returns-in_default c =
-    wrong_mark c.args.s.now c.args.at c.u16_at.ensures.0 (λ e. omega (arith, e)) (λ e. omega (arith, e)) (λ e. omega (arith, e)) (λ e. omega (arith, e))
+    wrong_mark c.args.s.now c.args.at c.u16_at.ensures.0 (λ e. omega (arith, e)) (λ e. omega (arith, e)) (λ e. omega (arith, e))
+    (λ e. omega (arith, e))

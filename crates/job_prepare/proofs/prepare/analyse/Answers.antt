@@ -14,4 +14,6 @@ pub slice_bounds-analyse-end-2 : goal.slice_bounds-analyse-end-2
 slice_bounds-analyse-end-2 c = sym (length-take-le _ _ (omega (arith, c.requires.1, c.wide-entries.ensures.0)))
 
 pub returns : goal.returns
-returns c = analysed_there c.args.n c.args.p.now c.args.i.now c.wide-entries.result (analysis c.args.tree.now c.args.up.now c.args.ui.now c.args.lp.now c.args.li.now) c.wide-entries.ensures.0 (search rules) (search rules) (search rules) (search rules) (search rules) c.analyse.ensures.0 c.analyse.ensures.1
+returns c = analysed_there c.args.n c.args.p.now c.args.i.now c.wide-entries.result
+    (analysis c.args.tree.now c.args.up.now c.args.ui.now c.args.lp.now c.args.li.now) c.wide-entries.ensures.0 (search rules) (search rules)
+    (search rules) (search rules) (search rules) c.analyse.ensures.0 c.analyse.ensures.1

@@ -9,7 +9,12 @@ pub loop-k-init : goal.loop-k-init
 loop-k-init c = telling_start _ _
 
 pub loop-k-preserved : goal.loop-k-preserved
-loop-k-preserved c = elim c.if-l-k.branch [ then-l-k t ↦ rw t.bad-is (telling_fails _ c.loop-k.invariant c.loop-k-test.true (le-ltb _ _ t.if-l-k.true)) | else-l-k t ↦ rw t.bad-is (telling_holds _ c.loop-k.invariant c.loop-k-test.true (lt-ltb _ _ t.if-l-k.false)) ]
+loop-k-preserved c = elim c.if-l-k.branch [
+  | then-l-k t ↦
+      rw t.bad-is (telling_fails _ c.loop-k.invariant c.loop-k-test.true (le-ltb _ _ t.if-l-k.true))
+  | else-l-k t ↦
+      rw t.bad-is (telling_holds _ c.loop-k.invariant c.loop-k-test.true (lt-ltb _ _ t.if-l-k.false))
+]
 
 pub returns : goal.returns
 unfolding all_below

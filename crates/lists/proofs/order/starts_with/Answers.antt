@@ -12,7 +12,12 @@ pub loop-q-init : goal.loop-q-init
 loop-q-init c = (telling_start _ _, c.if-b-a.false)
 
 pub loop-q-preserved : goal.loop-q-preserved
-loop-q-preserved c = elim c.if-a-q.branch [ then-a-q t ↦ rw t.apart-is (telling_fails _ c.loop-q.invariant.0 c.loop-q-test.true (ne_eqb _ _ t.if-a-q.true), c.loop-q.invariant.1) | else-a-q t ↦ rw t.apart-is (telling_holds _ c.loop-q.invariant.0 c.loop-q-test.true (eq-eqb _ _ t.if-a-q.false), c.loop-q.invariant.1) ]
+loop-q-preserved c = elim c.if-a-q.branch [
+  | then-a-q t ↦
+      rw t.apart-is (telling_fails _ c.loop-q.invariant.0 c.loop-q-test.true (ne_eqb _ _ t.if-a-q.true), c.loop-q.invariant.1)
+  | else-a-q t ↦
+      rw t.apart-is (telling_holds _ c.loop-q.invariant.0 c.loop-q-test.true (eq-eqb _ _ t.if-a-q.false), c.loop-q.invariant.1)
+]
 
 pub returns : goal.returns
 returns c = telling_done _ c.loop-q.invariant.0 c.loop-q-test.false ∙ same-told _ _ c.loop-q.invariant.1

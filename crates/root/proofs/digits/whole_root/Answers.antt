@@ -42,7 +42,11 @@ pub loop-i-preserved : goal.loop-i-preserved
 loop-i-preserved c =
     let t = c.loop-i.invariant in
     let l : c.loop-i.i < 27 = omega arith in
-    elim c.if-trial-rem.branch [ then-trial-rem w ↦ rw (w.rem-is, w.root-is) (fewer t l w.if-trial-rem.true) | else-trial-rem w ↦ rw (w.rem-is, w.root-is) (same t l w.if-trial-rem.false) ]
+    elim c.if-trial-rem.branch [
+      | then-trial-rem w ↦ rw (w.rem-is, w.root-is) (fewer t l w.if-trial-rem.true)
+      | else-trial-rem w ↦
+          rw (w.rem-is, w.root-is) (same t l w.if-trial-rem.false)
+    ]
 
 pub returns : goal.returns
 returns c = found c.loop-i.invariant (omega arith)

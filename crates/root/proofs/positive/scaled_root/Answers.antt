@@ -21,7 +21,10 @@ pub overflow_sub-i : goal.overflow_sub-i
 overflow_sub-i c = omega (arith, ((ready c.args.u c.args.x c.requires.0 c.requires.1 c.requires.2 c.requires.3)).fewer)
 
 pub rounded_root-a-requires : goal.rounded_root-a-requires
-rounded_root-a-requires c = (((ready c.args.u c.args.x c.requires.0 c.requires.1 c.requires.2 c.requires.3)).low, ((ready c.args.u c.args.x c.requires.0 c.requires.1 c.requires.2 c.requires.3)).high)
+rounded_root-a-requires c = (
+  ((ready c.args.u c.args.x c.requires.0 c.requires.1 c.requires.2 c.requires.3)).low,
+  ((ready c.args.u c.args.x c.requires.0 c.requires.1 c.requires.2 c.requires.3)).high,
+)
 
 pub overflow_add-result : goal.overflow_add-result
 overflow_add-result c = omega (arith, c.requires.3)
@@ -30,7 +33,13 @@ pub overflow_mul-result : goal.overflow_mul-result
 overflow_mul-result c = omega (arith, c.requires.3)
 
 pub overflow_add-result-2 : goal.overflow_add-result-2
-overflow_add-result-2 c = omega (arith, c.requires.3, c.rounded_root-a.ensures, ((ready c.args.u c.args.x c.requires.0 c.requires.1 c.requires.2 c.requires.3)).digits)
+overflow_add-result-2 c = omega (
+  arith,
+  c.requires.3,
+  c.rounded_root-a.ensures,
+  ((ready c.args.u c.args.x c.requires.0 c.requires.1 c.requires.2 c.requires.3)).digits,
+)
 
 pub returns : goal.returns
-returns c = ap (λ (a : ℕ). (place c.args.u c.args.x / 2 + 485) * 0x10_0000_0000_0000 + a) c.rounded_root-a.ensures ∙ ((ready c.args.u c.args.x c.requires.0 c.requires.1 c.requires.2 c.requires.3)).is
+returns c = ap (λ (a : ℕ). (place c.args.u c.args.x / 2 + 485) * 0x10_0000_0000_0000 + a) c.rounded_root-a.ensures ∙
+    ((ready c.args.u c.args.x c.requires.0 c.requires.1 c.requires.2 c.requires.3)).is

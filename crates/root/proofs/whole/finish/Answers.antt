@@ -25,7 +25,12 @@ pub overflow_mul-q : goal.overflow_mul-q
 overflow_mul-q c = omega (arith, ((sized c.requires.0 c.requires.1 c.requires.2)).square, ((sized c.requires.0 c.requires.1 c.requires.2)).digits)
 
 pub overflow_add-root-2 : goal.overflow_add-root-2
-overflow_add-root-2 c = omega (arith, ((sized c.requires.0 c.requires.1 c.requires.2)).most, ((sized c.requires.0 c.requires.1 c.requires.2)).digits, ((sized c.requires.0 c.requires.1 c.requires.2)).square)
+overflow_add-root-2 c = omega (
+  arith,
+  ((sized c.requires.0 c.requires.1 c.requires.2)).most,
+  ((sized c.requires.0 c.requires.1 c.requires.2)).digits,
+  ((sized c.requires.0 c.requires.1 c.requires.2)).square,
+)
 
 pub overflow_add-result : goal.overflow_add-result
 overflow_add-result c = omega (arith, ((sized c.requires.0 c.requires.1 c.requires.2)).most, ((sized c.requires.0 c.requires.1 c.requires.2)).digits)
