@@ -45,14 +45,11 @@ fn count_column(k: u32, rows: &[u32], par: &[u32], mark: &mut [u32], counts: &mu
     ensures { Tallied k par.now rows.now result mark.new counts.old counts.new }
 {
     let mut count = 0;
-    let mut q = 0;
-    while q < rows.len() {
-        let row = rows[q];
+    for &row in rows {
         if row > k {
             return count;
         }
         count += count_walk(k, row, par, mark, counts);
-        q += 1;
     }
     count
 }
@@ -74,15 +71,13 @@ pub fn count_rows(
         × (result ≤ 4194304 → counts.new ≡ counted (flatten us) counts.old) }
 {
     let mut total = 0;
-    let mut k = 0;
-    while k < n {
+    for k in 0..n {
         let a = wide(p[k]);
         let e = wide(p[k + 1]);
         total += count_column(k as u32, &i[a..e], par, mark, counts);
         if total > MOST {
             return MOST + 1;
         }
-        k += 1;
     }
     total
 }
