@@ -21,9 +21,8 @@ fn look_column(k: u32, rows: &[u32], next: &mut [u32], li: &[u32]) -> bool
     ensures { (result ≡ true → Stood k rows.now li.now next.old next.new (length rows.now))
         × ((s : Spread k rows.now next.old li.now) → Looked s result next.new li.now) }
 {
-    let mut q = 0;
-    while q < rows.len() {
-        let j = wide(rows[q]);
+    for &row in rows {
+        let j = wide(row);
         let t = wide(next[j]);
         if t >= li.len() {
             return false;
@@ -32,7 +31,6 @@ fn look_column(k: u32, rows: &[u32], next: &mut [u32], li: &[u32]) -> bool
             return false;
         }
         next[j] += 1;
-        q += 1;
     }
     true
 }
@@ -46,14 +44,12 @@ fn look_columns(n: usize, up: &[u32], ui: &[u32], next: &mut [u32], li: &[u32]) 
         × (result ≡ false → (s : Spreads n up.now ui.now next.old li.now)
         → false ≡ starts_with (by_key n (flatten s.us) (numbers 0 s.us)) li.now) }
 {
-    let mut k = 0;
-    while k < n {
+    for k in 0..n {
         let b = wide(up[k]);
         let f = wide(up[k + 1]);
         if !look_column(k as u32, &ui[b..f], next, li) {
             return false;
         }
-        k += 1;
     }
     true
 }

@@ -64,15 +64,12 @@ pub fn lay(
     ensures { Reached s k par.now rows.now end out.old result mark.new out.new }
 {
     let mut top = end;
-    let mut q = 0;
-    while q < rows.len() {
-        let row = rows[q];
+    for &row in rows {
         if row > k {
             return top;
         }
         let len = trace(k, s, row, par, mark, &mut out[0..top]);
         top = shift(len, top, out);
-        q += 1;
     }
     top
 }

@@ -36,9 +36,6 @@ returns-then-not-look_column c = (
       c.wide-f.ensures.0 c.look_column.ensures.1 (not-true _ c.if-not-look_column.true-raw),
 )
 
-pub loop-k-smaller : goal.loop-k-smaller
-loop-k-smaller c = omega (arith, c.loop-k-test.true)
-
 pub loop-k-preserved : goal.loop-k-preserved
 loop-k-preserved c = (
   c.look_column.auto.next ∙ c.loop-k.invariant.0,

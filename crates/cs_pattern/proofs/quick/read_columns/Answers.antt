@@ -73,9 +73,6 @@ returns-then-not-read_column c = (
       (not-true _ c.if-not-read_column.true-raw)),
 )
 
-pub loop-k-smaller : goal.loop-k-smaller
-loop-k-smaller c = omega (arith, c.loop-k-test.true)
-
 pub loop-k-preserved : goal.loop-k-preserved
 loop-k-preserved c = reading_turn c.requires.1 c.loop-k.invariant (inside c.requires.0 c.loop-k-test.true)
     (part-is c.requires.0 c.loop-k-test.true c.wide-a.ensures.0 c.wide-e.ensures.0) c.wide-b.ensures.0 c.wide-f.ensures.0 c.if-f-b.false
