@@ -24,10 +24,7 @@ fn look_column(k: u32, rows: &[u32], next: &mut [u32], li: &[u32]) -> bool
     for &row in rows {
         let j = wide(row);
         let t = wide(next[j]);
-        if t >= li.len() {
-            return false;
-        }
-        if li[t] != k {
+        if t >= li.len() || li[t] != k {
             return false;
         }
         next[j] += 1;
@@ -69,18 +66,9 @@ pub fn look(
         → result ≡ (starts_with (starts 0 (transposed u.us)) lp.now && starts_with (flatten (transposed u.us)) li.now))
         × Kept 0 n w.old w.new }
 {
-    if lp.len() <= n {
-        return false;
-    }
-    if lp[0] != 0 {
-        return false;
-    }
-    if li.len() < t {
+    if lp.len() <= n || lp[0] != 0 || li.len() < t {
         return false;
     }
     copy(&lp[0..n], w);
-    if !look_columns(n, up, ui, &mut w[0..n], &li[0..t]) {
-        return false;
-    }
-    starts_with(&lp[1..n + 1], w)
+    look_columns(n, up, ui, &mut w[0..n], &li[0..t]) && starts_with(&lp[1..n + 1], w)
 }

@@ -28,10 +28,7 @@ fn stops(k: u32, c: u32, par: &[u32], mark: &[u32]) -> bool
         return false;
     }
     let above = par[wide(c)];
-    if above > k {
-        return true;
-    }
-    mark[wide(above)] == k + 1
+    above > k || mark[wide(above)] == k + 1
 }
 
 // Reads the way from a row that is not listed, where held ends with it, and marks it. The answer is where it starts, or none where
@@ -117,13 +114,10 @@ fn read_columns(
         let e = wide(p[k + 1]);
         let b = wide(up[k]);
         let f = wide(up[k + 1]);
-        if f < b {
+        let Some(held) = ui.get(b..f) else {
             return false;
-        }
-        if ui.len() < f {
-            return false;
-        }
-        if !read_column(k as u32, &i[a..e], par, mark, &ui[b..f]) {
+        };
+        if !read_column(k as u32, &i[a..e], par, mark, held) {
             return false;
         }
     }
@@ -146,10 +140,7 @@ pub fn read_upper(
         (result ≡ true → Known cols tree.now up.now ui.now) × (Known cols tree.now up.now ui.now → result ≡ true)
         × Kept 0 n w1.old w1.new × Kept 0 n w2.old w2.new }
 {
-    if up.len() <= n {
-        return false;
-    }
-    if wide(up[n]) > MOST {
+    if up.len() <= n || wide(up[n]) > MOST {
         return false;
     }
     elimination_tree(n, p, i, &mut w1[0..n], &mut w2[0..n]);

@@ -37,14 +37,7 @@ fn shift(len: usize, top: usize, out: &mut [u32]) -> usize
     ensures { (result + len ≡ top) × (drop result out.new ≡ take len out.old ++ drop top out.old) }
 {
     let low = top - len;
-    if low == 0 {
-        return low;
-    }
-    let mut t = len;
-    while t > 0 {
-        t -= 1;
-        out[low + t] = out[t];
-    }
+    out.copy_within(0..len, low);
     low
 }
 

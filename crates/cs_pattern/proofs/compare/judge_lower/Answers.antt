@@ -10,12 +10,12 @@ returns-then-room-t c = (lower-tight c.args.room c.args.lp.now c.args.li.now c.i
 pub returns-then-not-look : goal.returns-then-not-look
 returns-then-not-look c = (
   lower_differs c.args.room c.args.lp.now c.args.li.now c.if-room-t.false c.look.ensures.0
-      (not-true _ c.if-not-look.true-raw),
+      c.if-not-look.true,
   c.look.ensures.1,
 )
 
 pub returns : goal.returns
 returns c = (
-  lower-none c.args.room c.args.lp.now c.args.li.now c.if-room-t.false c.look.ensures.0 (not-false _ c.if-not-look.false-raw),
+  lower-none c.args.room c.args.lp.now c.args.li.now c.if-room-t.false c.look.ensures.0 c.if-not-look.false,
   c.look.ensures.1,
 )

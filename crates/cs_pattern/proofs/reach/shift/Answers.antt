@@ -1,25 +1,16 @@
 -- `shift` meets its contract. Assumes nothing.
-use Rattle.std.proofs.Common.{refl, arith}
-use Rattle.cs_tree.proofs.Tracing.{shifting_start, shift_from, shift_to, shifting_turn, shifting_done, shift_none}
+use Rattle.std.proofs.Common.{◌≡◌, ℕ, ◌+◌, ◌-◌, ◌≤◌, List, ◌++◌, length, take, drop, append_assoc, arith}
+use Rattle.std.specs.List.{copy_within}
+use lib.Seq.{drop_at, length-take-le}
 use Rattle.cs_pattern.proofs.reach.shift.Goals as goal
 
 pub overflow_sub-low : goal.overflow_sub-low
 overflow_sub-low c = c.requires.0
 
-pub returns-then-low-eq0 : goal.returns-then-low-eq0
-returns-then-low-eq0 c = shift_none _ refl c.requires.0 c.if-low-eq0.true
-
-pub loop-t-init : goal.loop-t-init
-loop-t-init c = shifting_start refl c.requires.0 c.requires.1
-
-pub bounds-out-t : goal.bounds-out-t
-bounds-out-t c = shift_from c.loop-t.invariant c.loop-t-test.true
-
-pub bounds-out-low : goal.bounds-out-low
-bounds-out-low c = shift_to c.loop-t.invariant c.loop-t-test.true
-
-pub loop-t-preserved : goal.loop-t-preserved
-loop-t-preserved c = shifting_turn c.loop-t.invariant c.loop-t-test.true
+moved : (out : List ℕ) (low len top : ℕ) → low + len ≡ top → top ≤ length out → drop low (copy_within out 0 len low) ≡ take len out ++ drop top out
+moved out low len top e h =
+    let z : len - 0 ≡ len = omega arith in
+    rw (z, e, append_assoc) (drop_at (take low out) (take len out ++ drop top out) low (length-take-le low out (omega arith)))
 
 pub returns : goal.returns
-returns c = (c.loop-t.invariant.ends, shifting_done c.loop-t.invariant (omega arith))
+returns c = (omega arith, rw c.copy_within.ensures.after (moved c.args.out.now (c.args.top - c.args.len) c.args.len c.args.top (omega arith) (omega arith)))
