@@ -1,7 +1,7 @@
 -- `look` meets its contract. Assumes nothing.
 use Rattle.std.proofs.Common.{arith}
 use Rattle.lists.proofs.Keeping.{kept-all}
-use Rattle.cs_pattern.proofs.Finding.{unseen, lp_long, lp_first, li_long, look_asks, look_unseen, look_told}
+use Rattle.cs_pattern.proofs.Finding.{unseen, lp_long, lp_first, li_long, look_unseen, look_told}
 use Rattle.cs_pattern.proofs.look.look.Goals as goal
 use Rattle.cs_pattern.proofs.look.look.Goals.{then-lp-n-via-then-lp-n, then-lp-n-via-else-lp-n+then-lp-ne0}
 use Rattle.cs_pattern.proofs.look.look.Goals.{then-lp-n-via-else-lp-n+else-lp-ne0+then-li-t}
@@ -14,10 +14,6 @@ returns-then-lp-n c = unseen c.args.lp.now c.args.li.now
       | then-lp-n-via-else-lp-n+else-lp-ne0+then-li-t w ↦ λ u h. omega (arith, w.if-li-t.true, li_long c.args.lp.now c.args.li.now u h)
     ])
     (kept-all _ _)
-
-pub look_columns-requires : goal.look_columns-requires
-look_columns-requires c = look_asks c.args.n c.args.t c.args.up.now c.args.ui.now c.args.lp.now c.args.li.now c.args.w.now c.requires.1
-    c.if-lp-n.false c.copy.ensures c.if-li-t.false c.requires.0
 
 pub returns-else-look_columns : goal.returns-else-look_columns
 returns-else-look_columns c = rw c.if-look_columns.false

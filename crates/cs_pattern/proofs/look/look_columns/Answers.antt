@@ -1,7 +1,7 @@
 -- `look_columns` meets its contract. Assumes nothing.
 use Rattle.cs_pattern.proofs.Finding.{lower-turn, lower_stop}
 use Rattle.cs_tree.proofs.Spreading.{columns-start}
-use Rattle.cs_tree.proofs.Looking.{seen_start, seen_order, seen_inside, seen_low, seen_turn, seen_done}
+use Rattle.cs_tree.proofs.Looking.{seen_start, seen_order, seen_inside, seen_low, seen_turn}
 use Rattle.std.proofs.Common.{sym, ◌∙◌, true≢false, arith}
 use Rattle.cs_pattern.proofs.look.look_columns.Goals as goal
 
@@ -42,6 +42,3 @@ loop-k-preserved c = (
   lower-turn c.loop-k.invariant.2 c.loop-k-test.true c.wide-b.ensures.0 c.wide-f.ensures.0 c.look_column.ensures.1
       c.if-not-look_column.false,
 )
-
-pub returns : goal.returns
-returns c = (λ z. seen_done c.loop-k.invariant.1 c.loop-k-test.false, λ z. absurd (true≢false z))

@@ -1,6 +1,6 @@
 -- `lower_column` meets its contract. Assumes nothing.
-use Rattle.cs_tree.proofs.Falling.{putting_start, putting_row, putting_some, putting_place, putting_turn, putting_done}
-use Rattle.std.proofs.Common.{◌≡◌, ℕ, ◌+◌, ◌-◌, ◌≤◌, List, [], ◌∷◌, ◌++◌, length, get_or, take, refl, sym, ap, ◌∙◌, arith, take_all, length-append}
+use Rattle.cs_tree.proofs.Falling.{putting_some, putting_place, putting_turn}
+use Rattle.std.proofs.Common.{◌≡◌, ℕ, ◌+◌, ◌-◌, List, [], ◌∷◌, ◌++◌, length, get_or, take, refl, sym, ap, ◌∙◌, arith, length-append}
 use Rattle.std.proofs.Math.Seq.{get_or-append_seam}
 use Rattle.std.proofs.lemmas.List.{get_or-take, take_at}
 use lib.Seq.{take-take}
@@ -24,12 +24,6 @@ last rows rest less x e f =
           take-take (length less) (length rest) rows (omega arith);
     }
 
-pub loop-row-init : goal.loop-row-init
-loop-row-init c =
-    let e = ap (λ r. r.iter.rest.now) c.into_iter-row-iterator.ensures.into_iter_gives ∙ ap (λ r. r.rest.now) c.rev-row-items.ensures.source ∙
-        c.iter.ensures.rest in
-    rw e (sym (take_all _ _ (omega arith)), omega arith, putting_start)
-
 pub overflow_sub-t : goal.overflow_sub-t
 overflow_sub-t c =
     let d = last _ _ _ _ c.in-Some.ensures.steps c.loop-row.invariant.0 in
@@ -52,6 +46,3 @@ loop-row-preserved c =
       omega (arith, d.one, c.loop-row.invariant.1),
       rw m (putting_turn c.loop-row.invariant.2 (omega (arith, d.one)) c.loop-row.invariant.1 (c.wide-j.ensures.0 ∙ d.is) c.wide.ensures.0),
     )
-
-pub returns : goal.returns
-returns c = putting_done c.loop-row.invariant.2 c.in-None.ensures.steps.0

@@ -10,18 +10,12 @@ pub returns-in_err-last : goal.returns-in_err-last
 returns-in_err-last c = rw c.from_residual.ensures
     (tt, λ older g m d. absurd (omega (arith, aiming_some c.requires.0 d c.requires.2 g, c.in_err-last.ensures.item)))
 
-pub stops-requires : goal.stops-requires
-stops-requires c = c.requires.0
-
 pub returns-then-not-stops : goal.returns-then-not-stops
 returns-then-not-stops c = (
   tt,
   λ older g m d. let s = aiming_stops c.requires.0 d c.requires.2 g refl (search rules) in
       absurd (not-both _ (c.stops.ensures.1 older g s.0 s.1) c.if-not-stops.true),
 )
-
-pub bounds-par-wide : goal.bounds-par-wide
-bounds-par-wide c = omega (arith, (c.stops.ensures.0 c.if-not-stops.false).low, c.requires.0.p_long, c.wide.ensures.0)
 
 pub loop-t-init : goal.loop-t-init
 loop-t-init c = (
@@ -57,6 +51,3 @@ loop-t-preserved c = (
   c.loop-t.invariant.1,
   aiming_turn c.loop-t.invariant.0 c.loop-t.invariant.2 c.loop-t-test.true refl c.if-b-row.false,
 )
-
-pub returns : goal.returns
-returns c = (tt, λ older g m d. absurd (omega (arith, (c.loop-t.invariant.2.tells older g m d).0, c.loop-t-test.false)))

@@ -2,25 +2,10 @@
 use Rattle.cs_tree.proofs.Aiming.{backing_reads, backing_none}
 use Rattle.std.proofs.Common.{suc, sym, true≢false, arith, eqb-true}
 use Rattle.cs_tree.proofs.Past.{backing_past}
-use Rattle.cs_tree.proofs.Backward.{backing_start, backing_turn, backing_done}
+use Rattle.cs_tree.proofs.Backward.{backing_turn, backing_done}
 use Rattle.lists.proofs.Laying.{part_long}
 use Rattle.cs_pattern.proofs.quick.read_column.Goals as goal
 use Rattle.cs_pattern.proofs.quick.read_column.Goals.{else-loop-row-test, then-loop-row-test+then-row-k}
-
-pub loop-row-init : goal.loop-row-init
-loop-row-init c = backing_start _ _ c.requires.0 c.requires.1
-
-pub read_row-requires : goal.read_row-requires
-read_row-requires c = (
-  c.loop-row.invariant.asks,
-  omega (
-    arith,
-    c.requires.2,
-    part_long c.loop-row.top c.args.held.now c.loop-row.invariant.within,
-    c.loop-row.invariant.within,
-  ),
-  c.if-row-k.false,
-)
 
 pub returns-in_default : goal.returns-in_default
 returns-in_default c = (

@@ -1,13 +1,10 @@
 -- `read_columns` meets its contract. Assumes nothing.
 use Rattle.cs_tree.proofs.Aiming.{holds_first, holds_order, holds_inside, holds_column}
 use Rattle.lists.proofs.Bools.{not-both}
-use borrow.Author.Tests.{not-true}
 use Rattle.std.proofs.Common.{sym, refl, ◌∙◌, true≢false, arith}
-use Rattle.lists.proofs.Parts.{length_part}
 use Rattle.cs_tree.proofs.Backward.{reading_start, reading_turn, reading_done}
 use Rattle.cs_tree.proofs.Filling.{given_walks}
 use Rattle.cs_pattern.proofs.Columns.{inside, outside, as_many, here, part-is, part-rises, columns_long}
-use borrow.Author.Tests.{not-false}
 use Rattle.cs_pattern.proofs.quick.read_columns.Goals as goal
 
 pub returns-then-up-ne0 : goal.returns-then-up-ne0
@@ -28,12 +25,6 @@ returns-in_default c = (
         holds_inside c.requires.1 d k c.wide-b.ensures.0 c.wide-f.ensures.0,
       )),
 )
-
-pub slice_bounds-read_column-count : goal.slice_bounds-read_column-count
-slice_bounds-read_column-count c = (here c.requires.0 c.loop-k-test.true c.wide-a.ensures.0 c.wide-e.ensures.0).order
-
-pub slice_bounds-read_column-start : goal.slice_bounds-read_column-start
-slice_bounds-read_column-start c = (here c.requires.0 c.loop-k-test.true c.wide-a.ensures.0 c.wide-e.ensures.0).order
 
 pub slice_bounds-read_column-end : goal.slice_bounds-read_column-end
 slice_bounds-read_column-end c = (here c.requires.0 c.loop-k-test.true c.wide-a.ensures.0 c.wide-e.ensures.0).inside
@@ -62,9 +53,6 @@ loop-k-preserved c =
     reading_turn c.requires.1 c.loop-k.invariant (inside c.requires.0 c.loop-k-test.true)
     (part-is c.requires.0 c.loop-k-test.true c.wide-a.ensures.0 c.wide-e.ensures.0) c.wide-b.ensures.0 c.wide-f.ensures.0 given.0 given.1
     c.read_column.auto.mark (rw given.2 at read)
-
-pub shape_of-mark : goal.shape_of-mark
-shape_of-mark c = c.loop-k.invariant.m_long ∙ sym (as_many c.requires.0 c.requires.2)
 
 pub returns : goal.returns
 returns c = (

@@ -1,8 +1,7 @@
 -- `read_upper` meets its contract. Assumes nothing.
 use Rattle.std.proofs.Common.{arith}
-use Rattle.lists.proofs.Laying.{part_long}
 use Rattle.lists.proofs.Keeping.{kept-all}
-use Rattle.cs_pattern.proofs.Deciding.{untold, up-short, up_many, tree_untold, read_asks, told}
+use Rattle.cs_pattern.proofs.Deciding.{untold, up-short, up_many, read_asks, told}
 use Rattle.cs_pattern.proofs.quick.read_upper.Goals as goal
 use Rattle.cs_pattern.proofs.quick.read_upper.Goals.{then-up-n-via-then-up-n, then-up-n-via-else-up-n+then-wide-gt-MOST}
 
@@ -14,20 +13,6 @@ returns-then-up-n c = untold c.requires.0 c.args.tree.now c.args.up.now c.args.u
           up_many c.requires.0 c.args.tree.now c.args.up.now c.args.ui.now (omega (arith, w.if-wide-gt-MOST.true, w.wide.ensures.0))
     ])
     (kept-all _ _) (kept-all _ _)
-
-pub elimination_tree-requires : goal.elimination_tree-requires
-elimination_tree-requires c = (c.requires.0, part_long _ _ c.requires.1, part_long _ _ c.requires.2)
-
-pub starts_with-requires : goal.starts_with-requires
-starts_with-requires c = tt
-
-pub returns-then-not-starts_with : goal.returns-then-not-starts_with
-returns-then-not-starts_with c = tree_untold c.requires.0 c.args.tree.now c.args.up.now c.args.ui.now c.args.w1.now c.args.w2.now
-    c.elimination_tree.new.anc c.requires.1 c.requires.2 c.elimination_tree.ensures c.elimination_tree.auto.anc c.starts_with.ensures
-    c.if-not-starts_with.true
-
-pub clear-requires : goal.clear-requires
-clear-requires c = tt
 
 pub read_columns-requires : goal.read_columns-requires
 read_columns-requires c = read_asks c.requires.0 c.args.tree.now c.args.up.now c.args.ui.now c.args.w1.now c.args.w2.now c.elimination_tree.new.anc

@@ -1,11 +1,8 @@
 -- `stops` meets its contract. Assumes nothing.
 use Rattle.cs_tree.proofs.Aiming.{stops-marked}
-use Rattle.std.proofs.Common.{sym, refl, true≢false, arith, eqb-true, lt-ltb}
+use Rattle.std.proofs.Common.{refl, eqb-true, lt-ltb}
 use Rattle.cs_tree.proofs.Backward.{stops-over, stops_seen}
 use Rattle.cs_pattern.proofs.quick.stops.Goals as goal
-
-pub returns-then-c-k : goal.returns-then-c-k
-returns-then-c-k c = (λ z. absurd (true≢false (sym z)), λ older g l n. absurd (omega (arith, c.if-c-k.true, l)))
 
 pub returns-then-above-k : goal.returns-then-above-k
 returns-then-above-k c = (

@@ -1,21 +1,12 @@
 -- `tree_column` meets its contract. Assumes nothing.
-use Rattle.cs_tree.proofs.Climbing.{climbing_start, climbing_up, climbing_next, climbing_root, climbing_end, rows_start, rows-turn, rows-done}
+use Rattle.cs_tree.proofs.Climbing.{climbing_next, climbing_root, climbing_end, rows-turn, rows-done}
 use Rattle.cs_tree.proofs.Past.{rows_past}
 use Rattle.std.proofs.Common.{arith}
 use Rattle.cs_pattern.proofs.tree.tree_column.Goals as goal
 use Rattle.cs_pattern.proofs.tree.tree_column.Goals.{else-climb-test, then-climb-test+then-a}
 
-pub loop-row-init : goal.loop-row-init
-loop-row-init c = rows_start _ c.requires.0
-
 pub returns-then-i-top : goal.returns-then-i-top
 returns-then-i-top c = rows_past c.loop-row.invariant c.requires.1 (omega (arith, c.if-i-top.true, c.wide-i.ensures.0, c.wide-top.ensures.0))
-
-pub climb-init : goal.climb-init
-climb-init c = climbing_start _ c.loop-row.invariant.asks
-
-pub climb-smaller : goal.climb-smaller
-climb-smaller c = omega (arith, climbing_up c.climb.invariant (omega arith))
 
 pub climb-preserved : goal.climb-preserved
 climb-preserved c = climbing_next c.climb.invariant (omega arith) c.if-a.false c.wide-i-in-climb.ensures.0
