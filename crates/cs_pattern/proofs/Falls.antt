@@ -24,12 +24,6 @@ module _ {n : ℕ} {p i par : List ℕ} (v : ValidPattern (pattern n n p i)) (g 
       pub falls-in : k - 1 < n
       falls-in = omega (arith, falls-within)
 
-      pub falls-pointers : k - 1 + 1 < length p
-      falls-pointers = omega (arith, falls-within, v.p_long)
-
-      pub falls-up : k - 1 < length up
-      falls-up = omega (arith, F.up_long, F.up_room, F.within)
-
       module _ {a e : ℕ} (x : a ≡ get_or p (k - 1) 0) (y : e ≡ get_or p (k - 1 + 1) 0) where
         pub falls_here : Between p (length i) (k - 1) a e
         falls_here = here v falls-in x y
