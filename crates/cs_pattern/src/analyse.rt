@@ -99,7 +99,6 @@ pub fn analyse(
         return 7;
     }
     fill(ncols, t, p, i, tree, up, ui, lp, li, w1, w2, w3);
-    let need = ncols + 1;
-    clear_scratch(need, w1, w2, w3, x);
+    clear_scratch(ncols + 1, w1, w2, w3, x);
     0
 }

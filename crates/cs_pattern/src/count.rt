@@ -13,7 +13,6 @@ ghost use Rattle.cs_tree.specs.Steps.{Walks, Marks, Given};
 ghost use Rattle.cs_pattern.specs.Columns.{columns};
 
 use lists::numbers::wide;
-use std::num::wrapping_add_u32;
 
 // The entries that a matrix may have.
 pub const MOST: usize = 4194304;
@@ -32,7 +31,7 @@ fn count_walk(k: u32, row: u32, par: &[u32], mark: &mut [u32], counts: &mut [u32
             return len;
         }
         mark[i] = stamp;
-        counts[i] = wrapping_add_u32(counts[i], 1);
+        counts[i] = counts[i].wrapping_add(1);
         len += 1;
         i = wide(par[i]);
     }
