@@ -8,4 +8,4 @@ abbrev pub invariant-loop-row : goal.invariant-loop-row
 invariant-loop-row l =
     let rest = l.row-iterator.iter.rest.now in
     (rest ≡ take (length rest) l.rows) × (length rest ≤ length l.rows) ×
-        Putting l.k l.rows l.initial.next l.initial.li l.next l.li (length rest)
+    Putting l.k l.rows l.initial.next l.initial.li l.next l.li (length rest)

@@ -39,9 +39,11 @@ returns-then-b-k c = (
 
 pub returns-then-b-row : goal.returns-then-b-row
 returns-then-b-row c = (
-  (omega (arith, c.loop-t.invariant.0.within),
+  (
+    omega (arith, c.loop-t.invariant.0.within),
     λ older m. descending_found c.loop-t.invariant.0 c.loop-t-test.true refl c.if-b-k.false c.wide-j.ensures.0 c.if-par-j.false c.if-mark-j.false
-        c.if-b-row.true older m (omega (arith, c.loop-t.invariant.0.within))),
+        c.if-b-row.true older m (omega (arith, c.loop-t.invariant.0.within)),
+  ),
   λ older g m d. refl,
 )
 

@@ -42,7 +42,7 @@ returns-then-not-read_column c = (
   λ z. absurd (true≢false (sym z)),
   λ d.
       let part = holds_column c.requires.1 d (inside c.requires.0 c.loop-k-test.true) c.wide-b.ensures.0 c.wide-f.ensures.0
-          (part-is c.requires.0 c.loop-k-test.true c.wide-a.ensures.0 c.wide-e.ensures.0) in
+      (part-is c.requires.0 c.loop-k-test.true c.wide-a.ensures.0 c.wide-e.ensures.0) in
       absurd (not-both _ (c.read_column.ensures.1 (c.in-Some.ensures.lookup.0.2 ∙ part)) c.if-not-read_column.true),
 )
 
