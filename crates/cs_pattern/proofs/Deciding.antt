@@ -105,7 +105,8 @@ module _ {n : ℕ} {p i : List ℕ} (v : ValidPattern (pattern n n p i)) (tr up 
             )
 
     pub read_asks : {w2b : List ℕ} → w2b ≡ cleared 0 n (placed 0 n w2 a) → n < length up
-        → ValidPattern (pattern n n p i) × Given C (part 0 n (placed 0 n w1 t)) × (length (part 0 n w2b) ≡ n) × Zeros (part 0 n w2b) × (n < length up)
+        → ValidPattern (pattern n n p i) × Given C (part 0 n (placed 0 n w1 t)) × (length (part 0 n w2b) ≡ n) × Zeros (part 0 n w2b) ×
+        (n < length up)
     read_asks g u = let b = outline_asks v w1 w2 w1 a l1 l2 l1 e f g in (b.0, b.1, b.2, b.3, u)
 
 -- ---- `decide`

@@ -21,6 +21,6 @@ returns-else-look_columns c = rw c.if-look_columns.false
     c.copy.ensures c.if-li-t.false c.look_columns.new.next c.look_columns.auto.next c.if-look_columns.false c.look_columns.ensures.1)
 
 pub returns-then-look_columns : goal.returns-then-look_columns
-returns-then-look_columns c = look_told c.args.n c.args.t c.args.up.now c.args.ui.now c.args.lp.now c.args.li.now c.args.w.now c.requires.1 c.if-lp-n.false
-    c.copy.ensures c.if-li-t.false c.look_columns.new.next c.look_columns.auto.next c.if-lp-ne0.false c.look_columns.ensures.0
+returns-then-look_columns c = look_told c.args.n c.args.t c.args.up.now c.args.ui.now c.args.lp.now c.args.li.now c.args.w.now c.requires.1
+    c.if-lp-n.false c.copy.ensures c.if-li-t.false c.look_columns.new.next c.look_columns.auto.next c.if-lp-ne0.false c.look_columns.ensures.0
     c.if-look_columns.true c.starts_with.ensures

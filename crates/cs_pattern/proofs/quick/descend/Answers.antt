@@ -4,7 +4,8 @@ use Rattle.lists.proofs.Bools.{not-both}
 use Rattle.cs_tree.proofs.Backward.{descending_start, descending_turn, descending_found}
 use Rattle.std.proofs.Common.{refl, arith, rules}
 use Rattle.cs_pattern.proofs.quick.descend.Goals as goal
-use Rattle.cs_pattern.proofs.quick.descend.Goals.{then-b-k-via-then-b-k, then-b-k-via-else-b-k+then-par-j, then-b-k-via-else-b-k+else-par-j+then-mark-j}
+use Rattle.cs_pattern.proofs.quick.descend.Goals.{then-b-k-via-then-b-k, then-b-k-via-else-b-k+then-par-j}
+use Rattle.cs_pattern.proofs.quick.descend.Goals.{then-b-k-via-else-b-k+else-par-j+then-mark-j}
 
 pub returns-in_err-last : goal.returns-in_err-last
 returns-in_err-last c = rw c.from_residual.ensures
