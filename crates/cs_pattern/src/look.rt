@@ -70,5 +70,5 @@ pub fn look(
         return false;
     }
     copy(&lp[0..n], w);
-    look_columns(n, up, ui, &mut w[0..n], &li[0..t]) && starts_with(&lp[1..n + 1], w)
+    look_columns(n, up, ui, &mut w[0..n], &li[0..t]) && starts_with(&lp[1..=n], w)
 }

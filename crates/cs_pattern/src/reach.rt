@@ -37,7 +37,7 @@ fn shift(len: usize, top: usize, out: &mut [u32]) -> usize
     ensures { (result + len ≡ top) × (drop result out.new ≡ take len out.old ++ drop top out.old) }
 {
     let low = top - len;
-    out.copy_within(0..len, low);
+    out.copy_within(..len, low);
     low
 }
 
