@@ -1,6 +1,6 @@
 -- What `analyse` answers and leaves, at each of its ways out. Assumes nothing.
 use Rattle.std.proofs.Common.{◌≡◌, ℕ, ◌+◌, ◌-◌, ◌^◌, ◌<◌, ◌≤◌, Bool, true, false, cond, ◌||◌, eqb, ltb, List, [], ◌∷◌, ◌++◌, length, get_or, take}
-use Rattle.std.proofs.Common.{sym, refl, ap, ◌∙◌, ⊎_elim, append_assoc, arith, ltb-false, le-ltb, lt-ltb}
+use Rattle.std.proofs.Common.{sym, refl, ap, ◌∙◌, ⊎_elim, append_assoc, arith, ltb-false, lt-ltb}
 use mathlib.Core.List.{flatten}
 use lib.Ieee.{Float}
 use Rattle.lists.specs.Calls.{lowest, onto, none, cleared, Scratch, scratch, wiped, narrow, Lent, lent, leaves}
@@ -34,30 +34,6 @@ use Rattle.cs_pattern.proofs.Columns.{columns_fit, columns_long, given}
 use Rattle.cs_pattern.proofs.Filled.{tree-size, upper-size, zeros-front, counts_there}
 use Rattle.cs_pattern.proofs.Promising.{analysed_holds}
 use Rattle.cs_matrix.proofs.Squaring.{judged6, early_6, Prepared, unprepared}
-
--- ---- `too_short`, test by test
-module _ (n t a b c d e : ℕ) where
-  abbrev S : Bool
-  S = ltb 4194304 t || ltb a n || ltb b (n + 1) || ltb c t || ltb d (n + 1) || ltb e t
-
-  pub short_1 : 4194304 < t → true ≡ S
-  short_1 h = rw (lt-ltb 4194304 t h)
-
-  module _ (f : t ≤ 4194304) where
-    pub short_2 : a < n → true ≡ S
-    short_2 h = rw (le-ltb 4194304 t f, lt-ltb a n h)
-
-    pub short_3 : n ≤ a → b < n + 1 → true ≡ S
-    short_3 g h = rw (le-ltb 4194304 t f, le-ltb a n g, lt-ltb b (n + 1) h)
-
-    pub short_4 : n ≤ a → n + 1 ≤ b → c < t → true ≡ S
-    short_4 g i h = rw (le-ltb 4194304 t f, le-ltb a n g, le-ltb b (n + 1) i, lt-ltb c t h)
-
-    pub short_5 : n ≤ a → n + 1 ≤ b → t ≤ c → d < n + 1 → true ≡ S
-    short_5 g i j h = rw (le-ltb 4194304 t f, le-ltb a n g, le-ltb b (n + 1) i, le-ltb c t j, lt-ltb d (n + 1) h)
-
-    pub short_6 : n ≤ a → n + 1 ≤ b → t ≤ c → n + 1 ≤ d → ltb e t ≡ S
-    short_6 g i j h = rw (le-ltb 4194304 t f, le-ltb a n g, le-ltb b (n + 1) i, le-ltb c t j, le-ltb d (n + 1) h)
 
 -- ---- `fill`
 module _ {n t : ℕ} {p i : List ℕ} (v : ValidPattern (pattern n n p i)) {w1 w2 w3 : List ℕ} {out : Analysis}

@@ -1,4 +1,4 @@
--- What `read_upper` tells, and what `judge_lower` and `decide` make of it: each step, and each way out. Assumes nothing.
+-- What `read_upper` tells, and what `decide` makes of it: each step, and each way out. Assumes nothing.
 use Rattle.std.proofs.Common.{◌≡◌, ℕ, ◌+◌, ◌<◌, ◌≤◌, Bool, true, false, not, ◌&&◌, ltb, List, [], ◌∷◌, length, get_or, sym, ap, ◌∙◌, true≢false}
 use Rattle.std.proofs.Common.{arith, take_all, le-ltb, lt-ltb}
 use mathlib.Core.List.{flatten}
@@ -92,9 +92,6 @@ module _ {n : ℕ} {p i : List ℕ} (v : ValidPattern (pattern n n p i)) (tr up 
       tree_is : starts_with (tree C) tr ≡ r
       tree_is = ap (λ (y : List ℕ). starts_with y tr) (sym (tree-part v w1 e)) ∙ sym s
 
-      pub tree_untold : r ≡ false → (false ≡ true → Told) × (Told → false ≡ true) × Kept 0 n w1 (placed 0 n w1 t) × Kept 0 n w2 (placed 0 n w2 a)
-      tree_untold h = untold (λ d. not-both _ d.tree_same (tree_is ∙ h)) kept_1 kept_2
-
       module _ {w2b : List ℕ} (g : w2b ≡ cleared 0 n (placed 0 n w2 a)) where
         pub told : {q : Bool} (b : List ℕ) → r ≡ true → length b ≡ length (part 0 n w2b) → get_or up n 0 ≤ 4194304 → (q ≡ true → Holds C up ui) ×
             (Holds C up ui → q ≡ true)
@@ -108,26 +105,9 @@ module _ {n : ℕ} {p i : List ℕ} (v : ValidPattern (pattern n n p i)) (tr up 
             )
 
     pub read_asks : {w2b : List ℕ} → w2b ≡ cleared 0 n (placed 0 n w2 a) → n < length up
-        → ValidPattern (pattern n n p i) × Given C (part 0 n (placed 0 n w1 t)) × (length (part 0 n w2b) ≡ n) × Zeros (part 0 n w2b) × (n < length up)
+        → ValidPattern (pattern n n p i) × Given C (part 0 n (placed 0 n w1 t)) × (length (part 0 n w2b) ≡ n) × Zeros (part 0 n w2b) ×
+        (n < length up)
     read_asks g u = let b = outline_asks v w1 w2 w1 a l1 l2 l1 e f g in (b.0, b.1, b.2, b.3, u)
-
--- ---- `judge_lower`
-module _ {n t : ℕ} {up ui : List ℕ} (room : ℕ) (lp li : List ℕ) where
-  abbrev L : Whole n t up ui → Bool
-  L w = starts_with (starts 0 (transposed w.us)) lp && starts_with (flatten (transposed w.us)) li
-
-  abbrev JL : Whole n t up ui → ℕ
-  JL w = lowest ((7, ltb room t) ∷ (8, not (L w)) ∷ [])
-
-  pub lower-tight : room < t → (w : Whole n t up ui) → 7 ≡ JL w
-  lower-tight h w = rw (lt-ltb room t h)
-
-  module _ (l : t ≤ room) {q : Bool} (e : (w : Whole n t up ui) → q ≡ L w) where
-    pub lower_differs : q ≡ false → (w : Whole n t up ui) → 8 ≡ JL w
-    lower_differs z w = rw (le-ltb room t l, ← e w, z)
-
-    pub lower-none : q ≡ true → (w : Whole n t up ui) → 0 ≡ JL w
-    lower-none z w = rw (le-ltb room t l, ← e w, z)
 
 -- ---- `decide`
 module _ {n : ℕ} {p i : List ℕ} (v : ValidPattern (pattern n n p i)) (w1 w2 w3 : List ℕ) (l1 : n + 1 ≤ length w1) (l2 : n + 1 ≤ length w2)
@@ -183,9 +163,6 @@ module _ {n : ℕ} {p i : List ℕ} (v : ValidPattern (pattern n n p i)) (w1 w2 
 
   -- they are not: U's entries are counted
   module _ {w1a w2a : List ℕ} (k1 : Kept 0 n w1 w1a) (k2 : Kept 0 n w2 w2a) where
-    pub outline_asked : ValidPattern (pattern n n p i) × (n ≤ length w1a) × (n ≤ length w2a) × (n ≤ length w3)
-    outline_asked = (v, omega (arith, k1.long), omega (arith, k2.long), omega arith)
-
     module _ (room : ℕ) (tr up ui lp li : List ℕ) {t : ℕ} {w1b w2b w3b : List ℕ} (B : Outlined D n t w1a w1b w2a w2b w3 w3b) where
       abbrev held : Analysis
       held = analysis tr up ui lp li

@@ -42,10 +42,6 @@ module _ {k : ℕ} {rows next₀ li next : List ℕ} {q : ℕ} (v : Going k rows
             (λ y. d (sym y ∙ ap (λ (a : ℕ). get_or (by_key s.n s.keys s.xs) a 0) f ∙ going_holds v h e s));
       }
 
-pub looked_agrees : {k : ℕ} {rows next₀ li next : List ℕ} → Going k rows next₀ li next li (length rows) → (s : Spread k rows next₀ li) →
-    Looked s true next li
-looked_agrees w s = record { agrees = λ z. w s; differs = λ z. absurd (true≢false z) }
-
 -- ---- `look_columns`
 module _ {n : ℕ} {up ui next₀ li next next1 : List ℕ} {k b f : ℕ} (v : Columns n up ui next₀ li next li k) (h : k < n) (x : b ≡ get_or up k 0)
     (y : f ≡ get_or up (k + 1) 0)
@@ -160,9 +156,6 @@ module _ (n t : ℕ) (up ui lp li : List ℕ) where
         (let z : 0 + r ≡ r = omega arith in ap (λ (x : ℕ). get_or lp x 0) z))
 
     module _ (o : t ≤ length li) where
-      pub look_asks : Whole n t up ui → Whole n (length (part 0 t li)) up ui × (length (part 0 n w1) ≡ n)
-      look_asks u = (rw (part_long t li o) u, part_long n w1 long_1)
-
       module _ (ys : List ℕ) (e : length ys ≡ length (part 0 n w1)) where
         ys_long : length ys ≡ n
         ys_long = e ∙ part_long n w1 long_1

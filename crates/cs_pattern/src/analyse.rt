@@ -9,6 +9,7 @@ ghost use Rattle.cs_pattern.specs.Columns.{columns};
 ghost use Rattle.cs_pattern.specs.Promise.{Analysed};
 ghost use Rattle.cs_pattern.specs.Steps.{Ready};
 
+use crate::count::MOST;
 use crate::fill::outline;
 use crate::upper::fill_columns;
 use cs_matrix::square::prepare;
@@ -21,22 +22,7 @@ fn too_short(n: usize, t: usize, tree: usize, up: usize, ui: usize, lp: usize, l
     requires { n ≤ 65535 }
     ensures { result ≡ (nat_lt 4194304 t || nat_lt tree n || nat_lt up (n + 1) || nat_lt ui t || nat_lt lp (n + 1) || nat_lt li t) }
 {
-    if t > 4194304 {
-        return true;
-    }
-    if tree < n {
-        return true;
-    }
-    if up < n + 1 {
-        return true;
-    }
-    if ui < t {
-        return true;
-    }
-    if lp < n + 1 {
-        return true;
-    }
-    li < t
+    t > MOST || tree < n || up < n + 1 || ui < t || lp < n + 1 || li < t
 }
 
 // Writes the analysis to outputs that have room for its t entries.
@@ -113,7 +99,6 @@ pub fn analyse(
         return 7;
     }
     fill(ncols, t, p, i, tree, up, ui, lp, li, w1, w2, w3);
-    let need = ncols + 1;
-    clear_scratch(need, w1, w2, w3, x);
+    clear_scratch(ncols + 1, w1, w2, w3, x);
     0
 }

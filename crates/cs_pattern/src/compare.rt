@@ -72,10 +72,7 @@ fn decide(
         return judge_lower(n, wide(up[n]), room, up, ui, lp, li, w3);
     }
     let t = outline(n, p, i, w1, w2, w3);
-    if t > MOST {
-        return 7;
-    }
-    if room < t {
+    if t > MOST || room < t {
         return 7;
     }
     8

@@ -13,7 +13,6 @@ ghost use Rattle.cs_tree.specs.Steps.{Walks, Marks, Given};
 ghost use Rattle.cs_pattern.specs.Columns.{columns};
 
 use lists::numbers::wide;
-use std::num::wrapping_add_u32;
 
 // The entries that a matrix may have.
 pub const MOST: usize = 4194304;
@@ -32,7 +31,7 @@ fn count_walk(k: u32, row: u32, par: &[u32], mark: &mut [u32], counts: &mut [u32
             return len;
         }
         mark[i] = stamp;
-        counts[i] = wrapping_add_u32(counts[i], 1);
+        counts[i] = counts[i].wrapping_add(1);
         len += 1;
         i = wide(par[i]);
     }
@@ -45,14 +44,11 @@ fn count_column(k: u32, rows: &[u32], par: &[u32], mark: &mut [u32], counts: &mu
     ensures { Tallied k par.now rows.now result mark.new counts.old counts.new }
 {
     let mut count = 0;
-    let mut q = 0;
-    while q < rows.len() {
-        let row = rows[q];
+    for &row in rows {
         if row > k {
             return count;
         }
         count += count_walk(k, row, par, mark, counts);
-        q += 1;
     }
     count
 }
@@ -74,15 +70,13 @@ pub fn count_rows(
         × (result ≤ 4194304 → counts.new ≡ counted (flatten us) counts.old) }
 {
     let mut total = 0;
-    let mut k = 0;
-    while k < n {
+    for k in 0..n {
         let a = wide(p[k]);
         let e = wide(p[k + 1]);
         total += count_column(k as u32, &i[a..e], par, mark, counts);
         if total > MOST {
             return MOST + 1;
         }
-        k += 1;
     }
     total
 }

@@ -21,18 +21,13 @@ fn look_column(k: u32, rows: &[u32], next: &mut [u32], li: &[u32]) -> bool
     ensures { (result ≡ true → Stood k rows.now li.now next.old next.new (length rows.now))
         × ((s : Spread k rows.now next.old li.now) → Looked s result next.new li.now) }
 {
-    let mut q = 0;
-    while q < rows.len() {
-        let j = wide(rows[q]);
+    for &row in rows {
+        let j = wide(row);
         let t = wide(next[j]);
-        if t >= li.len() {
-            return false;
-        }
-        if li[t] != k {
+        if t >= li.len() || li[t] != k {
             return false;
         }
         next[j] += 1;
-        q += 1;
     }
     true
 }
@@ -46,14 +41,12 @@ fn look_columns(n: usize, up: &[u32], ui: &[u32], next: &mut [u32], li: &[u32]) 
         × (result ≡ false → (s : Spreads n up.now ui.now next.old li.now)
         → false ≡ starts_with (by_key n (flatten s.us) (numbers 0 s.us)) li.now) }
 {
-    let mut k = 0;
-    while k < n {
+    for k in 0..n {
         let b = wide(up[k]);
         let f = wide(up[k + 1]);
         if !look_column(k as u32, &ui[b..f], next, li) {
             return false;
         }
-        k += 1;
     }
     true
 }
@@ -73,18 +66,9 @@ pub fn look(
         → result ≡ (starts_with (starts 0 (transposed u.us)) lp.now && starts_with (flatten (transposed u.us)) li.now))
         × Kept 0 n w.old w.new }
 {
-    if lp.len() <= n {
-        return false;
-    }
-    if lp[0] != 0 {
-        return false;
-    }
-    if li.len() < t {
+    if lp.len() <= n || lp[0] != 0 || li.len() < t {
         return false;
     }
     copy(&lp[0..n], w);
-    if !look_columns(n, up, ui, &mut w[0..n], &li[0..t]) {
-        return false;
-    }
-    starts_with(&lp[1..n + 1], w)
+    look_columns(n, up, ui, &mut w[0..n], &li[0..t]) && starts_with(&lp[1..=n], w)
 }

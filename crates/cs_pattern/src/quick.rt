@@ -1,6 +1,6 @@
 // Whether slices hold the tree and U, told without working a column out: each way up the tree is read from its far end down to
 // its stored row.
-ghost use Rattle.std.specs.Prelude.{◌≡◌, ℕ, suc, ◌+◌, ◌^◌, ◌<◌, ◌≤◌, true, List, [], length, slice_index};
+ghost use Rattle.std.specs.Prelude.{◌≡◌, ℕ, suc, ◌+◌, ◌^◌, ◌<◌, ◌≤◌, true, List, [], length, slice_index, IfSome, IsSome};
 ghost use Rattle.lists.specs.Keeping.{Kept};
 ghost use Rattle.lists.specs.Order.{rises};
 ghost use Rattle.cs_matrix.specs.Matrix.{pattern, ValidPattern};
@@ -28,61 +28,46 @@ fn stops(k: u32, c: u32, par: &[u32], mark: &[u32]) -> bool
         return false;
     }
     let above = par[wide(c)];
-    if above > k {
-        return true;
-    }
-    mark[wide(above)] == k + 1
+    above > k || mark[wide(above)] == k + 1
 }
 
-// Reads the way from a row that is not listed, where held ends with it, and marks it. The answer is where it starts, or a place
-// past the end.
-fn descend(k: u32, row: u32, par: &[u32], mark: &mut [u32], held: &[u32]) -> usize
+// Reads the way from a row that is not listed, where held ends with it, and marks it. The answer is where it starts, or none where
+// held ends with something else.
+fn descend(k: u32, row: u32, par: &[u32], mark: &mut [u32], held: &[u32]) -> Option<usize>
     requires { Walks k par.now mark.old × (length held.now < 2 ^ 32) × Unlisted k mark.old row }
-    ensures { ((older : List ℕ) → Marks k mark.old older → result ≤ length held.now
-        → Read k par.now row older held.now result mark.new)
-        × ((older : List ℕ) → Marks k mark.old older → (m : ℕ) → Ending k par.now row older held.now m → result ≤ length held.now) }
+    ensures { IfSome result (λ t. (t ≤ length held.now)
+        × ((older : List ℕ) → Marks k mark.old older → Read k par.now row older held.now t mark.new))
+        × ((older : List ℕ) → Marks k mark.old older → (m : ℕ) → Ending k par.now row older held.now m → IsSome result) }
 {
-    let mut t = held.len();
-    let none = t + 1;
-    if t == 0 {
-        return none;
-    }
-    let last = held[t - 1];
+    let &last = held.last()?;
     if !stops(k, last, par, mark) {
-        return none;
+        return None;
     }
     let mut above = par[wide(last)];
-    while t > 0 {
-        t -= 1;
+    for t in (0..held.len()).rev() {
         let b = held[t];
-        if b > k {
-            return none;
-        }
         let j = wide(b);
-        if par[j] != above {
-            return none;
-        }
-        if mark[j] == k + 1 {
-            return none;
+        if b > k || par[j] != above || mark[j] == k + 1 {
+            return None;
         }
         mark[j] = k + 1;
         if b == row {
-            return t;
+            return Some(t);
         }
         above = b;
     }
-    none
+    None
 }
 
 // The same for any row of column k: one that is listed already has no way of its own.
-fn read_row(k: u32, row: u32, par: &[u32], mark: &mut [u32], held: &[u32]) -> usize
+fn read_row(k: u32, row: u32, par: &[u32], mark: &mut [u32], held: &[u32]) -> Option<usize>
     requires { Walks k par.now mark.old × (length held.now < 2 ^ 32) × (row ≤ k) }
-    ensures { ((older : List ℕ) → Marks k mark.old older → result ≤ length held.now
-        → Read k par.now row older held.now result mark.new)
-        × ((older : List ℕ) → Marks k mark.old older → (m : ℕ) → Ending k par.now row older held.now m → result ≤ length held.now) }
+    ensures { IfSome result (λ t. (t ≤ length held.now)
+        × ((older : List ℕ) → Marks k mark.old older → Read k par.now row older held.now t mark.new))
+        × ((older : List ℕ) → Marks k mark.old older → (m : ℕ) → Ending k par.now row older held.now m → IsSome result) }
 {
     if mark[wide(row)] == k + 1 {
-        return held.len();
+        return Some(held.len());
     }
     descend(k, row, par, mark, held)
 }
@@ -94,18 +79,14 @@ fn read_column(k: u32, rows: &[u32], par: &[u32], mark: &mut [u32], held: &[u32]
         × (held.now ≡ paths par.now k rows.now [] → result ≡ true) }
 {
     let mut top = held.len();
-    let mut q = 0;
-    while q < rows.len() {
-        let row = rows[q];
+    for &row in rows {
         if row > k {
             break;
         }
-        let next = read_row(k, row, par, mark, &held[0..top]);
-        if next > top {
+        let Some(next) = read_row(k, row, par, mark, &held[0..top]) else {
             return false;
-        }
+        };
         top = next;
-        q += 1;
     }
     top == 0
 }
@@ -128,22 +109,17 @@ fn read_columns(
     if up[0] != 0 {
         return false;
     }
-    let mut k = 0;
-    while k < n {
+    for k in 0..n {
         let a = wide(p[k]);
         let e = wide(p[k + 1]);
         let b = wide(up[k]);
         let f = wide(up[k + 1]);
-        if f < b {
+        let Some(held) = ui.get(b..f) else {
+            return false;
+        };
+        if !read_column(k as u32, &i[a..e], par, mark, held) {
             return false;
         }
-        if ui.len() < f {
-            return false;
-        }
-        if !read_column(k as u32, &i[a..e], par, mark, &ui[b..f]) {
-            return false;
-        }
-        k += 1;
     }
     true
 }
@@ -164,10 +140,7 @@ pub fn read_upper(
         (result ≡ true → Known cols tree.now up.now ui.now) × (Known cols tree.now up.now ui.now → result ≡ true)
         × Kept 0 n w1.old w1.new × Kept 0 n w2.old w2.new }
 {
-    if up.len() <= n {
-        return false;
-    }
-    if wide(up[n]) > MOST {
+    if up.len() <= n || wide(up[n]) > MOST {
         return false;
     }
     elimination_tree(n, p, i, &mut w1[0..n], &mut w2[0..n]);

@@ -9,7 +9,7 @@ ghost use Rattle.cs_pattern.specs.Columns.{columns};
 use lists::clear::fill;
 use lists::numbers::wide;
 
-const ROOT: u32 = 4294967295;
+const ROOT: u32 = u32::MAX;
 
 // Column k's part in the tree. The rows rise, so that the first that is not below k ends it.
 fn tree_column(k: u32, rows: &[u32], par: &mut [u32], anc: &mut [u32])
@@ -17,8 +17,8 @@ fn tree_column(k: u32, rows: &[u32], par: &mut [u32], anc: &mut [u32])
     ensures { forest par.new anc.new ≡ climbs k rows.now (forest par.old anc.old) }
 {
     let top = wide(k);
-    for q in 0..rows.len() {
-        let mut i = wide(rows[q]);
+    for &row in rows {
+        let mut i = wide(row);
         if i >= top {
             return;
         }

@@ -36,10 +36,8 @@ pub fn fill_columns(
 {
     up[n] = t as u32;
     let mut top = t;
-    let mut k = n;
-    while k > 0 {
-        let s = n - k;
-        k -= 1;
+    for k in (0..n).rev() {
+        let s = n - k - 1;
         let a = wide(p[k]);
         let e = wide(p[k + 1]);
         let low = lay(k as u32, s as u32, &i[a..e], par, mark, top, ui);

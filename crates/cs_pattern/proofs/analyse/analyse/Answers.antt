@@ -24,9 +24,6 @@ pub fill-requires : goal.fill-requires
 fill-requires c = ready (prepared _ _ _ c.prepare-refused.ensures c.if-refused-ne0.false) c.outline-t.ensures _ c.too_short.ensures
     c.if-too_short.false
 
-pub overflow_add-need : goal.overflow_add-need
-overflow_add-need c = record { fits = omega (arith, (square_valid (prepared _ _ _ c.prepare-refused.ensures c.if-refused-ne0.false)).cols) }
-
 pub returns : goal.returns
 returns c = at-end (prepared _ _ _ c.prepare-refused.ensures c.if-refused-ne0.false) c.outline-t.ensures _ c.too_short.ensures c.if-too_short.false
     c.fill.ensures c.clear_scratch-2.ensures

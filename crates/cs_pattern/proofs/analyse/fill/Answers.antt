@@ -5,9 +5,6 @@ use Rattle.cs_pattern.proofs.analyse.fill.Goals as goal
 pub fill_columns-requires : goal.fill_columns-requires
 fill_columns-requires c = fill_columns_asks c.requires.0 c.requires.1 c.cumsum.ensures.1 c.clear.ensures
 
-pub slice_bounds-copy-end : goal.slice_bounds-copy-end
-slice_bounds-copy-end c = c.requires.1.w1_long
-
 pub returns : goal.returns
 returns c = filled_out c.requires.0 c.requires.1 c.fill_columns.new.mark c.fill_columns.new.next c.copy.ensures c.cumsum.ensures.1
     c.cumsum.ensures.2 c.fill_columns.ensures c.fill_columns.auto.next c.clear.ensures c.fill_columns.auto.mark

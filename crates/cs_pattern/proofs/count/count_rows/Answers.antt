@@ -1,5 +1,5 @@
 -- `count_rows` meets its contract. Assumes nothing.
-use Rattle.std.proofs.Common.{sym, ◌∙◌, arith}
+use Rattle.std.proofs.Common.{arith}
 use Rattle.cs_pattern.proofs.Columns.{inside, few_columns, outside, as_many, part_few, columns_long, here, part-is, part-rises}
 use Rattle.lists.proofs.Keeping.{kept-wider}
 use Rattle.cs_tree.proofs.Bumping.{totting_start, tot_small, tot_kept, totting_turn, totting_stop, totting_done}
@@ -8,12 +8,6 @@ use Rattle.cs_pattern.proofs.count.count_rows.Goals as goal
 
 pub loop-k-init : goal.loop-k-init
 loop-k-init c = totting_start (as_many c.requires.0 c.requires.2) (omega (arith, columns_long c.requires.0, c.requires.4)) c.requires.3
-
-pub slice_bounds-count_column-count : goal.slice_bounds-count_column-count
-slice_bounds-count_column-count c = (here c.requires.0 c.loop-k-test.true c.wide-a.ensures.0 c.wide-e.ensures.0).order
-
-pub slice_bounds-count_column-start : goal.slice_bounds-count_column-start
-slice_bounds-count_column-start c = (here c.requires.0 c.loop-k-test.true c.wide-a.ensures.0 c.wide-e.ensures.0).order
 
 pub slice_bounds-count_column-end : goal.slice_bounds-count_column-end
 slice_bounds-count_column-end c = (here c.requires.0 c.loop-k-test.true c.wide-a.ensures.0 c.wide-e.ensures.0).inside
@@ -51,9 +45,6 @@ pub loop-k-preserved : goal.loop-k-preserved
 loop-k-preserved c = totting_turn c.requires.1 c.loop-k.invariant (inside c.requires.0 c.loop-k-test.true)
     (part-is c.requires.0 c.loop-k-test.true c.wide-a.ensures.0 c.wide-e.ensures.0) c.count_column-total.auto.mark c.count_column-total.ensures
     c.if-total-gt-MOST.false
-
-pub shape_of-mark : goal.shape_of-mark
-shape_of-mark c = c.loop-k.invariant.m_long ∙ sym (as_many c.requires.0 c.requires.2)
 
 pub returns : goal.returns
 returns c = let d = totting_done c.requires.1 c.loop-k.invariant (outside c.requires.0 c.loop-k-test.false) in

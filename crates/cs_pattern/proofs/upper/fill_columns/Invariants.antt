@@ -7,6 +7,3 @@ use Rattle.cs_pattern.proofs.upper.fill_columns.Given as goal
 abbrev pub invariant-loop-k : goal.invariant-loop-k
 invariant-loop-k l = Falling (columns (pattern l.n l.n l.p l.i)) l.initial.up l.initial.ui l.initial.next l.initial.li l.mark l.up l.ui l.next l.li
     l.top l.k
-
-abbrev pub decreases-loop-k : goal.decreases-loop-k
-decreases-loop-k l = l.k
