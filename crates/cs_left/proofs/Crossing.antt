@@ -162,7 +162,7 @@ module _ {k : ℕ} {us lp li : List ℕ} {lx : List Float} {next₀ : List ℕ} 
 
       pub adding_turn : {s t : ℕ} {y : List Float} → s ≡ get_or next j 0 → t ≡ get_or lp (j + 1) 0 → length y ≡ length x →
           y ≡ over (plus_at (neg (get_or lx s nan))) (part s t li) (part s t lx) x
-          → Adding k us lp li lx next₀ x₀ (set next j (s + 1)) y (q + 1)
+          → Adding k us lp li lx next₀ x₀ (set next j (get_or next j 0 + 1)) y (q + 1)
       unfolding advance add_step
       adding_turn {s} {t} a b l y =
           record {
@@ -170,8 +170,8 @@ module _ {k : ℕ} {us lp li : List ℕ} {lx : List Float} {next₀ : List ℕ} 
             x_long = l ∙ w.x_long;
             next_long = length-set next j _ ∙ w.next_long;
             x_is = along-turn (add_step k lp li lx) us 0 w.x_is h (y ∙ crossing_adds adding_here a b x ∙ (rw (← e, lt-ltb j k g)));
-            next_is = along-turn (advance k) us 0 w.next_is h (rw (← e, lt-ltb j k g, a));
-            ahead = λ r i m. get_or-set_other next j (get_or us r 0) (s + 1) 0 (λ z. w.asks.once q r (omega arith) m (sym e ∙ sym z)) ∙
+            next_is = along-turn (advance k) us 0 w.next_is h (rw (← e, lt-ltb j k g));
+            ahead = λ r i m. get_or-set_other next j (get_or us r 0) (get_or next j 0 + 1) 0 (λ z. w.asks.once q r (omega arith) m (sym e ∙ sym z)) ∙
                 w.ahead r (omega arith) m;
           }
 

@@ -26,7 +26,7 @@ module _ (c r : ℕ) (p i next : List ℕ) {s e : ℕ} (f : s ≡ get_or next r 
     unfolding meet_at
     meet_other n = rw (← f, ← g, ← d, ne_eqb z c n, and-false (ltb s e))
 
-    pub meet_is : z ≡ c → set next r (s + 1) ≡ meet_at c p i r next
+    pub meet_is : z ≡ c → set next r (get_or next r 0 + 1) ≡ meet_at c p i r next
     unfolding meet_at
     meet_is n = rw (← f, ← g, ← d, lt-ltb s e h, eq-eqb z c n)
 
@@ -91,7 +91,10 @@ module _ {c : ℕ} {p i next₀ next : List ℕ} {q : ℕ} (w : Walking c p i ne
   pub walking_done : Walked c p i next q
   walking_done = record { mirrors = w.mirrors; above = w.above }
 
-  module _ {m : ℕ} (k : m ≡ get_or p (c + 1) 0) (h : q < m) where
+  pub walking_end : get_or p (c + 1) 0 ≤ q → Walked c p i next (get_or p (c + 1) 0)
+  walking_end h = let e : q ≡ get_or p (c + 1) 0 = omega (arith, w.high) in rw e at walking_done
+
+  module _ (h : q < get_or p (c + 1) 0) where
     pub walking_in : q < length i
     walking_in = omega (arith, (w.asks.rises.each c w.asks.here).inside)
 

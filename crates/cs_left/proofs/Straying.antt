@@ -1,18 +1,19 @@
 -- The loops of src/stray.rt. Assumes nothing.
 use mathlib.Core.Path.{◌≡◌, refl, sym, ap, ◌∙◌}
-use mathlib.Core.Bool.{Bool, true, false, not, ◌&&◌, ◌||◌}
-use mathlib.Core.List.{List, [], ◌∷◌, Memᴰ}
+use mathlib.Core.Bool.{Bool, true, false, not, cond, ◌&&◌, ◌||◌}
+use mathlib.Core.List.{List, [], ◌∷◌, ◌++◌, Memᴰ}
 use mathlib.Core.Logic.{◌⊎◌, inl, inr, ⊎_elim}
-use Prim.Native.Nat.{ℕ, suc, ◌+◌, ◌≤◌, ◌<◌}
+use Prim.Native.Nat.{ℕ, zero, suc, ◌+◌, ◌≤◌, ◌<◌}
 use native.Mathlib.Omega.{arith}
 use lib.Dec.{ltb}
 use lib.ListN.{length, get_or, drop}
 use borrow.Author.Tests.{lt-ltb, le-ltb}
+use Rattle.std.specs.List.{list_any, range_with_len}
+use Rattle.std.proofs.Math.Bool.{or_assoc, or-false}
 use Rattle.lists.specs.Choices.{some_of, some, chosen}
 use Rattle.lists.specs.Order.{lists, rises}
 use Rattle.lists.specs.Parts.{part}
 use Rattle.lists.proofs.Bools.{le-or-lt, and-false}
-use Rattle.lists.proofs.Choices.{Upward, upward_turn, upward_found, upward_end}
 use Rattle.lists.proofs.Members.{listed-or-not}
 use Rattle.lists.proofs.Ordering.{rises-apart, member_lists}
 use Rattle.lists.proofs.Parts.{left_at, left-none}
@@ -171,16 +172,24 @@ module _ {k : ℕ} {p i lp li next : List ℕ} (w : Seeks k p i lp li next) wher
           (λ (b : k < get_or i y 0). inr (w.sought.mirrored k (get_or i y 0) z b a)) (le-or-lt (get_or i y 0) k))
           (w.mirrors.met k y w.here (omega arith) (omega arith)))
 
--- ---- `some_stray`
-module _ {n k : ℕ} (p i lp li : List ℕ) (w : Upward n (stray_at p i lp li) k) (h : k < n) {r : Bool} (g : r ≡ stray_at p i lp li k) where
-  pub strays-found : r ≡ true → true ≡ some (chosen n (stray_at p i lp li))
-  strays-found j = sym ((upward_found w h (sym g ∙ j)).found h).0
+-- ---- `some_stray`: some number below n passes a test
+any_more : (f : ℕ → Bool) (a n : ℕ) → list_any f (range_with_len a (suc n)) ≡ (list_any f (range_with_len a n) || f (a + n))
+any_more f a zero = let e : a + 0 ≡ a = omega arith in rw e (or-false (f a))
+any_more f a (suc n) =
+    let e : a + 1 + n ≡ a + suc n = omega arith in
+    ap (λ (b : Bool). f a || b) (any_more f (a + 1) n ∙ (rw e refl)) ∙ sym (or_assoc (f a) (list_any f (range_with_len (a + 1) n)) (f (a + suc n)))
 
-  pub strays-turn : r ≡ false → Upward n (stray_at p i lp li) (k + 1)
-  strays-turn j = upward_turn w h (sym g ∙ j)
+some_more : (l : List ℕ) (b : Bool) (n : ℕ) → (some l || b) ≡ some (l ++ cond b (n ∷ []) [])
+some_more [] true n = refl
+some_more [] false n = refl
+some_more (x ∷ l) b n = refl
 
-pub strays-end : {n : ℕ} (p i lp li : List ℕ) {k : ℕ} → Upward n (stray_at p i lp li) k → n ≤ k → false ≡ some (chosen n (stray_at p i lp li))
-strays-end p i lp li w h = sym ((upward_end w h).none h)
+pub any-chosen : (f : ℕ → Bool) (n : ℕ) → list_any f (range_with_len 0 n) ≡ some (chosen n f)
+unfolding chosen
+any-chosen f zero = refl
+any-chosen f (suc n) =
+    let e : 0 + n ≡ n = omega arith in
+    any_more f 0 n ∙ (rw (e, any-chosen f n) (some_more (chosen n f) (f n) n))
 
 -- ---- the scratch that is sought with
 pub sought_kept : {n : ℕ} {p i lp li : List ℕ} {m l : ℕ} → l ≡ m → Sought n p i lp li m → Sought n p i lp li l

@@ -44,12 +44,11 @@ module _ {k s e m : ℕ} {lp li next : List ℕ} {lx : List Float} (w : Finishes
 
   pub finished : (d : Float) (x : List Float) {ys y : List Float} → (ys ≡ quotients d (part s e li) x) × (y ≡ along zero_at (part s e li) x)
       → (placed s e lx ys ≡ placed (get_or lp k 0) (get_or lp (k + 1) 0) lx (quotients d (column lp k li) x)) ×
-      (y ≡ along zero_at (column lp k li) x) × (set next k (s + 1) ≡ set next k (get_or lp k 0 + 1))
+      (y ≡ along zero_at (column lp k li) x)
   finished d x {ys} {y} g =
       let z = within-part w.laid a b li in (
         ap (placed s e lx) (g.0 ∙ ap (λ (l : List ℕ). quotients d l x) z) ∙ (rw (a, b) refl),
         g.1 ∙ ap (λ (l : List ℕ). along zero_at l x) z,
-        rw a refl,
       )
 
 -- ---- `gather`

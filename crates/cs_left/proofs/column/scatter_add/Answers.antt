@@ -12,5 +12,5 @@ returns-then-tight c = run_plus c.args.x.now c.requires (sym c.tight.ensures ∙
 pub add_rows-requires : goal.add_rows-requires
 add_rows-requires c = c.requires.0
 
-pub returns : goal.returns
-returns c = c.add_rows.ensures
+pub returns-else-rows-gt7 : goal.returns-else-rows-gt7
+returns-else-rows-gt7 c = c.add_rows.ensures

@@ -13,8 +13,8 @@ loop-k-init c = state_start _ c.requires
 pub gather-pivot-requires : goal.gather-pivot-requires
 gather-pivot-requires c = state_gathers c.requires.served c.requires.none_stray refl c.loop-k.invariant c.loop-k-test.true
 
-pub overflow_cast-column : goal.overflow_cast-column
-overflow_cast-column c = omega (arith, c.loop-k-test.true, c.requires.served.valid.pattern.cols)
+pub overflow_cast-result : goal.overflow_cast-result
+overflow_cast-result c = omega (arith, c.loop-k-test.true, c.requires.served.valid.pattern.cols)
 
 pub shape_of-lx-then-not-pivot : goal.shape_of-lx-then-not-pivot
 shape_of-lx-then-not-pivot c = c.loop-k.invariant.lx_long
@@ -26,12 +26,6 @@ returns-then-not-pivot c = state_stop c.requires.served c.requires.none_stray re
 pub finish-requires : goal.finish-requires
 finish-requires c = state_finishes c.requires.served c.requires.none_stray refl c.loop-k.invariant c.loop-k-test.true c.gather-pivot.auto.x
     c.gather-pivot.ensures
-
-pub overflow_add-k : goal.overflow_add-k
-overflow_add-k c = omega (arith, c.loop-k-test.true, c.requires.served.valid.pattern.cols)
-
-pub loop-k-smaller : goal.loop-k-smaller
-loop-k-smaller c = omega (arith, c.loop-k-test.true)
 
 pub loop-k-preserved : goal.loop-k-preserved
 loop-k-preserved c = state_turn c.requires.served c.requires.none_stray refl c.loop-k.invariant c.loop-k-test.true c.gather-pivot.auto.x

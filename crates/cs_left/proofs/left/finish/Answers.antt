@@ -1,4 +1,5 @@
 -- `finish` meets its contract. Assumes nothing.
+use mathlib.Core.Path.{refl}
 use native.Mathlib.Omega.{arith}
 use Rattle.cs_left.proofs.Within.{finish_order, finish_li, finish_lx, finish_fits, finish_asks, finished}
 use Rattle.cs_left.proofs.left.finish.Goals as goal
@@ -33,11 +34,8 @@ divide-requires c = finish_asks c.requires c.wide-s.ensures.0 c.wide-e.ensures.0
 pub overflow_add-next : goal.overflow_add-next
 overflow_add-next c = record { fits = omega (arith, finish_fits c.requires c.wide-s.ensures.0 c.wide-e.ensures.0) }
 
-pub overflow_cast-next : goal.overflow_cast-next
-overflow_cast-next c = record { fits = omega (arith, finish_fits c.requires c.wide-s.ensures.0 c.wide-e.ensures.0) }
-
 pub bounds-next-k : goal.bounds-next-k
 bounds-next-k c = c.requires.place
 
 pub returns : goal.returns
-returns c = finished c.requires c.wide-s.ensures.0 c.wide-e.ensures.0 _ _ c.divide.ensures
+returns c = let f = finished c.requires c.wide-s.ensures.0 c.wide-e.ensures.0 _ _ c.divide.ensures in (f.0, f.1, refl)

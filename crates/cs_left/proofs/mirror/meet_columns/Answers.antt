@@ -12,12 +12,6 @@ meet_rows-requires c = crossed_asks c.loop-c.invariant c.loop-c-test.true
 pub bounds-next-c : goal.bounds-next-c
 bounds-next-c c = omega (arith, c.meet_rows.auto.next, c.loop-c.invariant.long, c.loop-c.invariant.room, c.loop-c-test.true)
 
-pub overflow_add-c : goal.overflow_add-c
-overflow_add-c c = record { fits = omega (arith, c.loop-c-test.true, c.loop-c.invariant.rises.few) }
-
-pub loop-c-smaller : goal.loop-c-smaller
-loop-c-smaller c = omega (arith, c.loop-c-test.true)
-
 pub loop-c-preserved : goal.loop-c-preserved
 loop-c-preserved c = crossed_turn c.loop-c.invariant c.loop-c-test.true c.meet_rows.auto.next c.meet_rows.ensures
 
