@@ -13,5 +13,5 @@ returns-then-tight c = run-takes c.args.x.now c.requires (sym c.tight.ensures âˆ
 pub take_rows-requires : goal.take_rows-requires
 take_rows-requires c = c.requires.0
 
-pub returns : goal.returns
-returns c = c.take_rows.ensures
+pub returns-else-rows-gt7 : goal.returns-else-rows-gt7
+returns-else-rows-gt7 c = c.take_rows.ensures

@@ -4,7 +4,7 @@ use Rattle.lists.proofs.Runs.{zipping_start, zipping_long, zipping_value, zippin
 use Rattle.cs_up.proofs.row.take_run.Goals as goal
 
 pub loop-z-init : goal.loop-z-init
-loop-z-init c = zipping_start _ c.smaller-n.ensures
+loop-z-init c = zipping_start _ c.min-n.ensures
 
 pub bounds-x-z : goal.bounds-x-z
 bounds-x-z c = zipping_place _ c.loop-z.invariant c.loop-z-test.true

@@ -18,9 +18,6 @@ bounds-vals-q c = omega (arith, c.loop-q.invariant.ask.alike, c.loop-q-test.true
 pub bounds-x-i : goal.bounds-x-i
 bounds-x-i c = loading_row c.loop-q.invariant c.loop-q-test.true c.wide-i.ensures.0 c.if-i-k.false
 
-pub loop-q-smaller : goal.loop-q-smaller
-loop-q-smaller c = omega (arith, c.loop-q-test.true)
-
 pub loop-q-preserved : goal.loop-q-preserved
 loop-q-preserved c = loading_turn c.loop-q.invariant c.loop-q-test.true c.wide-i.ensures.0 c.if-i-k.false
 

@@ -6,6 +6,3 @@ use Rattle.cs_up.proofs.start.load.Given as goal
 
 abbrev pub invariant-loop-q : goal.invariant-loop-q
 invariant-loop-q l = Loading l.k l.rows l.vals l.initial.x l.x l.q
-
-abbrev pub decreases-loop-q : goal.decreases-loop-q
-decreases-loop-q l = length l.rows - l.q

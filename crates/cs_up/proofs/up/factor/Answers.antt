@@ -16,9 +16,6 @@ pub close-requires : goal.close-requires
 close-requires c = factoring_closes c.loop-k.invariant c.loop-k-test.true c.column-pivot.ensures c.if-not-pivot.false-raw c.column-pivot.auto.lx
     c.column-pivot.auto.next
 
-pub loop-k-smaller : goal.loop-k-smaller
-loop-k-smaller c = omega (arith, c.loop-k-test.true)
-
 pub loop-k-preserved : goal.loop-k-preserved
 loop-k-preserved c = factoring-turn c.loop-k.invariant c.loop-k-test.true c.column-pivot.ensures c.if-not-pivot.false-raw c.column-pivot.auto.lx
     c.column-pivot.auto.next c.column-pivot.auto.x c.close.ensures
