@@ -5,6 +5,3 @@ use Rattle.cs_up.proofs.row.row_at.Goals as goal
 
 pub take_column-requires : goal.take_column-requires
 take_column-requires c = reads-takes c.requires _
-
-pub returns : goal.returns
-returns c = (refl, refl, c.take_column.ensures)

@@ -8,21 +8,12 @@ use Rattle.cs_up.proofs.row.rows_at.Goals.{else-j-k, then-j-k}
 pub loop-u-init : goal.loop-u-init
 loop-u-init c = rowing_start _ c.requires
 
-pub bounds-next-j : goal.bounds-next-j
-bounds-next-j c = row-in-next c.loop-u.invariant c.loop-u-test.true c.wide-j.ensures.0 c.if-j-k.true refl refl
-
-pub bounds-lp-j : goal.bounds-lp-j
-bounds-lp-j c = row-in_lp c.loop-u.invariant c.loop-u-test.true c.wide-j.ensures.0 c.if-j-k.true refl refl
-
 pub row_at-t-requires : goal.row_at-t-requires
 row_at-t-requires c = row_reads c.loop-u.invariant c.loop-u-test.true c.wide-j.ensures.0 c.if-j-k.true c.wide.ensures.0 c.wide-then-j-k.ensures.0
 
 pub overflow_add-next : goal.overflow_add-next
 overflow_add-next c = let h = place_few c.loop-u.invariant c.loop-u-test.true c.wide-j.ensures.0 c.if-j-k.true refl refl in
     record { fits = omega arith }
-
-pub bounds-next-j-then-j-k : goal.bounds-next-j-then-j-k
-bounds-next-j-then-j-k c = row-in-next c.loop-u.invariant c.loop-u-test.true c.wide-j.ensures.0 c.if-j-k.true refl refl
 
 pub loop-u-preserved : goal.loop-u-preserved
 loop-u-preserved c = let w = c.loop-u.invariant in let h = c.loop-u-test.true in let f = c.wide-j.ensures.0 in
@@ -32,15 +23,6 @@ loop-u-preserved c = let w = c.loop-u.invariant in let h = c.loop-u-test.true in
       | else-j-k u ↦
           rw (u.lx-is, u.next-is, u.x-is, u.pivot-is) (rowing_pass w h f u.if-j-k.false)
     ]
-
-pub shape_of-lx : goal.shape_of-lx
-shape_of-lx c = c.loop-u.invariant.lx_long
-
-pub shape_of-next : goal.shape_of-next
-shape_of-next c = c.loop-u.invariant.next_long
-
-pub shape_of-x : goal.shape_of-x
-shape_of-x c = c.loop-u.invariant.x_long
 
 pub returns : goal.returns
 returns c = rowing_end c.loop-u.invariant c.loop-u-test.false
