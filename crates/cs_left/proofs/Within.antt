@@ -4,7 +4,7 @@ use mathlib.Core.List.{List}
 use Prim.Native.Nat.{ℕ, ◌+◌, ◌≤◌}
 use native.Mathlib.Omega.{arith}
 use lib.Ieee.{Float, nan}
-use lib.ListN.{length, get_or, set}
+use lib.ListN.{length, get_or}
 use Rattle.lists.specs.Entries.{Entries}
 use Rattle.lists.specs.Folds.{along, over}
 use Rattle.lists.specs.Parts.{part, placed}

@@ -1,5 +1,4 @@
 -- `meet`: the step of proofs/Mirroring.antt. Assumes nothing.
-use native.Mathlib.Omega.{arith}
 use Rattle.cs_left.proofs.Mirroring.{meet_end, meet_other, meet_is}
 use Rattle.cs_left.proofs.mirror.meet.Goals as goal
 use Rattle.cs_left.proofs.mirror.meet.Goals.{else-s-e-via-then-s-e+else-wide-c, else-s-e-via-else-s-e}

@@ -1,5 +1,4 @@
 -- `row_at`: the step of proofs/Rowing.antt. Assumes nothing.
-use mathlib.Core.Path.{refl}
 use Rattle.cs_up.proofs.Rowing.{reads-takes}
 use Rattle.cs_up.proofs.row.row_at.Goals as goal
 

@@ -1,7 +1,7 @@
 -- `rows_at`: the loop of proofs/Rowing.antt. Assumes nothing.
 use mathlib.Core.Path.{refl, ◌∙◌}
 use native.Mathlib.Omega.{arith}
-use Rattle.cs_up.proofs.Rowing.{rowing_start, rowing_pass, rowing_next, rowing_end, row-in-next, row-in_lp, place_few, row_reads}
+use Rattle.cs_up.proofs.Rowing.{rowing_start, rowing_pass, rowing_next, rowing_end, place_few, row_reads}
 use Rattle.cs_up.proofs.row.rows_at.Goals as goal
 use Rattle.cs_up.proofs.row.rows_at.Goals.{else-j-k, then-j-k}
 

@@ -1,6 +1,4 @@
 -- `rows_at`: the loop of proofs/Rowing.antt. Assumes nothing.
-use Prim.Native.Nat.{◌-◌}
-use lib.ListN.{length}
 use Rattle.cs_up.proofs.Rowing.{Rowing}
 use Rattle.cs_up.proofs.row.rows_at.Given as goal
 

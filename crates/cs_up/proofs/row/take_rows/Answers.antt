@@ -1,6 +1,5 @@
 -- `take_rows`: the loop of lists/proofs/Entries.antt. Assumes nothing.
-use native.Mathlib.Omega.{arith}
-use Rattle.lists.proofs.Entries.{passing_start, passing_row, passing_value, passing_end}
+use Rattle.lists.proofs.Entries.{passing_end}
 use Rattle.cs_up.proofs.Taking.{taking_turn}
 use Rattle.cs_up.proofs.row.take_rows.Goals as goal
 

@@ -1,6 +1,4 @@
 -- `take_rows`: the loop of lists/proofs/Entries.antt. Assumes nothing.
-use Prim.Native.Nat.{◌-◌}
-use lib.ListN.{length}
 use Rattle.lists.proofs.Entries.{Passing}
 use Rattle.cs_up.specs.Steps.{take_at}
 use Rattle.cs_up.proofs.row.take_rows.Given as goal

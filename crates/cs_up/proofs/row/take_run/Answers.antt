@@ -1,6 +1,6 @@
 -- `take_run`: the loop of lists/proofs/Runs.antt. Assumes nothing.
 use lib.Ieee.{nan}
-use Rattle.lists.proofs.Runs.{zipping_start, zipping_long, zipping_value, zipping_place, zipping_turn, zipping_done}
+use Rattle.lists.proofs.Runs.{zipping_start, zipping_turn, zipping_done}
 use Rattle.cs_up.proofs.row.take_run.Goals as goal
 
 pub loop-z-init : goal.loop-z-init

@@ -1,5 +1,4 @@
 -- `take_run`: the loop of lists/proofs/Runs.antt. Assumes nothing.
-use Prim.Native.Nat.{◌-◌}
 use lib.Ieee.{binary64, sub, mul}
 use Rattle.lists.proofs.Runs.{Zipping}
 use Rattle.cs_up.proofs.row.take_run.Given as goal

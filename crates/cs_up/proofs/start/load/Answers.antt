@@ -1,6 +1,5 @@
 -- `load`: the loop of proofs/Loading.antt. Assumes nothing.
-use native.Mathlib.Omega.{arith}
-use Rattle.cs_up.proofs.Loading.{loading_start, loading_row, loading_turn, loading_stop, loading_done}
+use Rattle.cs_up.proofs.Loading.{loading_turn, loading_stop, loading_done}
 use Rattle.cs_up.proofs.start.load.Goals as goal
 
 pub returns-then-i-k : goal.returns-then-i-k

@@ -1,6 +1,4 @@
 -- `load`: the loop of proofs/Loading.antt. Assumes nothing.
-use Prim.Native.Nat.{◌-◌}
-use lib.ListN.{length}
 use Rattle.cs_up.proofs.Loading.{Loading}
 use Rattle.cs_up.proofs.start.load.Given as goal
 

@@ -1,6 +1,5 @@
 -- `column`: a column's steps, by the laws of proofs/Turning.antt. Assumes nothing.
-use native.Mathlib.Omega.{arith}
-use Rattle.cs_up.proofs.Turning.{in_p, in-up, stored, stored-in_v, column_loads, upper_order, upper_inside, column-rows, column-gone}
+use Rattle.cs_up.proofs.Turning.{stored, stored-in_v, column_loads, upper_order, upper_inside, column-rows, column-gone}
 use Rattle.cs_up.proofs.up.column.Goals as goal
 
 pub slice_bounds-start-end : goal.slice_bounds-start-end

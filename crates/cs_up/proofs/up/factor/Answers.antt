@@ -1,6 +1,5 @@
 -- `factor`: the loop of proofs/Factoring.antt. Assumes nothing.
-use native.Mathlib.Omega.{arith}
-use Rattle.cs_up.proofs.Factoring.{factoring-start, factoring_asks, factoring_stop, factoring_closes, factoring-turn, factoring-end}
+use Rattle.cs_up.proofs.Factoring.{factoring-start, factoring_stop, factoring_closes, factoring-turn, factoring-end}
 use Rattle.cs_up.proofs.up.factor.Goals as goal
 
 pub loop-k-init : goal.loop-k-init

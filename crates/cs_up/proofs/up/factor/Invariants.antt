@@ -1,5 +1,4 @@
 -- `factor`: the loop of proofs/Factoring.antt. Assumes nothing.
-use Prim.Native.Nat.{◌-◌}
 use Rattle.cs_up.proofs.Factoring.{Factoring}
 use Rattle.cs_up.proofs.up.factor.Given as goal
 

@@ -1,5 +1,5 @@
 -- `fill`: the laws of proofs/Calling.antt. Assumes nothing.
-use Rattle.cs_up.proofs.Calling.{fill_in_lp, fill_in_lx, fill_asks, filled}
+use Rattle.cs_up.proofs.Calling.{filled}
 use Rattle.cs_up.proofs.up.fill.Goals as goal
 
 pub returns : goal.returns
