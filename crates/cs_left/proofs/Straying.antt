@@ -20,7 +20,7 @@ use Rattle.lists.proofs.Parts.{left_at, left-none}
 use Rattle.cs_matrix.specs.Matrix.{column}
 use Rattle.lists.proofs.Spots.{Spot, spot, member_at}
 use Rattle.cs_matrix.proofs.Pointers.{length-column, get_or-column}
-use Rattle.cs_left.specs.Steps.{stray_in, Within, Rises, Mirrors, Sought, Seeks}
+use Rattle.cs_left.specs.Steps.{stray_in, Within, Rises, Seeks}
 use Rattle.cs_left.proofs.Within.{within-part}
 
 -- ---- `stray`: rows before q are no strays, and all that is held before `at` is below the rows from q on
@@ -31,16 +31,6 @@ pub record Straying (k : ℕ) (rows held : List ℕ) (q at : ℕ) : Type 0 where
   pub in_held : at ≤ length held
   pub rest : stray_in k held rows ≡ stray_in k held (drop q rows)
   pub passed : (h r : ℕ) → h < at → q ≤ r → r < length rows → get_or held h 0 < get_or rows r 0
-
-pub straying_start : (k : ℕ) {rows held : List ℕ} → (rises rows ≡ true) × (rises held ≡ true) → Straying k rows held 0 0
-straying_start k a = record {
-  rows_rise = a.0;
-  held_rise = a.1;
-  in_rows = omega arith;
-  in_held = omega arith;
-  rest = refl;
-  passed = λ h r g. absurd (omega arith);
-}
 
 module _ {k : ℕ} {rows held : List ℕ} {q at : ℕ} (w : Straying k rows held q at) where
   module _ (h : q < length rows) {row : ℕ} (e : row ≡ get_or rows q 0) where
@@ -149,9 +139,6 @@ module _ {k : ℕ} {p i lp li next : List ℕ} (w : Seeks k p i lp li next) wher
   pub seeks_stored : Within k p i
   seeks_stored = w.sought.stored.each k w.here
 
-  pub seeks_held : Within k lp li
-  seeks_held = w.sought.held.each k w.here
-
   pub seeks_both : Rises w.n p i × Rises w.n lp li
   seeks_both = (w.sought.stored, w.sought.held)
 
@@ -190,10 +177,3 @@ any-chosen f zero = refl
 any-chosen f (suc n) =
     let e : 0 + n ≡ n = omega arith in
     any_more f 0 n ∙ (rw (e, any-chosen f n) (some_more (chosen n f) (f n) n))
-
--- ---- the scratch that is sought with
-pub sought_kept : {n : ℕ} {p i lp li : List ℕ} {m l : ℕ} → l ≡ m → Sought n p i lp li m → Sought n p i lp li l
-sought_kept e w = rw e w
-
-pub seeks_at : {n k : ℕ} {p i lp li next : List ℕ} → Sought n p i lp li (length next) × Mirrors n p i next → k < n → Seeks k p i lp li next
-seeks_at {n} a h = record { n = n; here = h; sought = a.0; mirrors = a.1 }

@@ -14,12 +14,6 @@ use Rattle.cs_left.specs.Left.{put_at, quotients}
 use Rattle.cs_left.specs.Steps.{zero_at, add_held, advance, Places, Within, Crossings, Gathers, Finishes}
 
 module _ {k a e : ℕ} {p i : List ℕ} (w : Within k p i) (x : a ≡ get_or p k 0) (y : e ≡ get_or p (k + 1) 0) where
-  pub within_order : a ≤ e
-  within_order = omega (arith, w.order)
-
-  pub within_inside : e ≤ length i
-  within_inside = omega (arith, w.inside)
-
   pub within-part : {A : Type 0} (l : List A) → part a e l ≡ column p k l
   unfolding column
   within-part l = rw (x, y) refl
@@ -27,17 +21,8 @@ module _ {k a e : ℕ} {p i : List ℕ} (w : Within k p i) (x : a ≡ get_or p k
 -- ---- `finish`
 module _ {k s e m : ℕ} {lp li next : List ℕ} {lx : List Float} (w : Finishes k lp li lx next m) (a : s ≡ get_or lp k 0)
     (b : e ≡ get_or lp (k + 1) 0) where
-  pub finish_order : s ≤ e
-  finish_order = within_order w.laid a b
-
-  pub finish_li : e ≤ length li
-  finish_li = within_inside w.laid a b
-
   pub finish_lx : e ≤ length lx
   finish_lx = omega (arith, w.in_lx)
-
-  pub finish_fits : s + 1 ≤ 4194305
-  finish_fits = omega (arith, w.few, finish_order)
 
   pub finish_asks : Places m (part s e li) (length (part s e lx))
   finish_asks = rw (within-part w.laid a b li, length_part s e lx finish_lx, a, b) w.places
@@ -54,9 +39,6 @@ module _ {k s e m : ℕ} {lp li next : List ℕ} {lx : List Float} (w : Finishes
 -- ---- `gather`
 module _ {k m : ℕ} {p i up ui lp li next : List ℕ} {v lx : List Float} (w : Gathers k p i v up ui lp li lx next m) where
   module _ {a e : ℕ} (f : a ≡ get_or p k 0) (g : e ≡ get_or p (k + 1) 0) where
-    pub gather_v : e ≤ length v
-    gather_v = omega (arith, w.v_inside)
-
     pub gather_loads : Entries m (part a e i) (part a e v)
     gather_loads = rw (within-part w.stored f g i, within-part w.stored f g v) w.entries
 
