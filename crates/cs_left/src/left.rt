@@ -60,7 +60,7 @@ fn finish(k: usize, d: f64, lp: &[u32], li: &[u32], lx: &mut [f64], next: &mut [
     let s = wide(lp[k]);
     let e = wide(lp[k + 1]);
     divide(d, &li[s..e], &mut lx[s..e], x);
-    next[k] = (s + 1) as u32;
+    next[k] = lp[k] + 1;
 }
 
 // All columns, until a pivot is not above zero, or is NaN.
@@ -81,19 +81,16 @@ fn factor(
     ensures { Ended (entries (upper (columns (pattern n n p.now i.now))))
         (left (matrix n n p.now i.now v.now)) result lx.old lx.new }
 {
-    let mut k = 0;
-    while k < n {
+    for k in 0..n {
         let pivot = gather(k, p, i, v, up, ui, lp, li, lx, next, x);
-        let column = k as u32;
         if !(pivot > 0.0) {
             return Factored {
                 number: 11,
-                column: column,
-                pivot: pivot,
+                column: k as u32,
+                pivot,
             };
         }
         finish(k, root(pivot), lp, li, lx, next, x);
-        k += 1;
     }
     refused(0)
 }

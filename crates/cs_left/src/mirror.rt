@@ -12,13 +12,9 @@ fn meet(r: usize, c: usize, p: &[u32], i: &[u32], next: &mut [u32])
 {
     let s = wide(next[r]);
     let e = wide(p[r + 1]);
-    if s >= e {
-        return;
+    if s < e && wide(i[s]) == c {
+        next[r] += 1;
     }
-    if wide(i[s]) != c {
-        return;
-    }
-    next[r] = (s + 1) as u32;
 }
 
 // The rows of column c down to its diagonal, which itself meets nothing that stays. The answer is the place behind them.
@@ -26,17 +22,15 @@ fn meet_rows(c: usize, p: &[u32], i: &[u32], next: &mut [u32]) -> u32
     requires { Meets c p.now i.now next.old }
     ensures { Walked c p.now i.now next.new result }
 {
-    let e = wide(p[c + 1]);
-    let mut q = wide(p[c]);
-    while q < e {
-        let r = wide(i[q]);
+    let end = p[c + 1];
+    for q in p[c]..end {
+        let r = wide(i[wide(q)]);
         if r > c {
-            return q as u32;
+            return q;
         }
         meet(r, c, p, i, next);
-        q += 1;
     }
-    q as u32
+    end
 }
 
 // All columns, rising.
@@ -44,9 +38,7 @@ pub fn meet_columns(n: usize, p: &[u32], i: &[u32], next: &mut [u32])
     requires { Rises n p.now i.now × (length next.old ≡ n) }
     ensures { Mirrors n p.now i.now next.new }
 {
-    let mut c = 0;
-    while c < n {
+    for c in 0..n {
         next[c] = meet_rows(c, p, i, next);
-        c += 1;
     }
 }

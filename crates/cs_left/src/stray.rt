@@ -58,14 +58,7 @@ fn some_stray(n: usize, p: &[u32], i: &[u32], lp: &[u32], li: &[u32], next: &[u3
     requires { Sought n p.now i.now lp.now li.now (length next.now) × Mirrors n p.now i.now next.now }
     ensures { result ≡ some (chosen n (λ k. stray_in k (column lp.now k li.now) (column p.now k i.now))) }
 {
-    let mut k = 0;
-    while k < n {
-        if stray_at(k, p, i, lp, li, next) {
-            return true;
-        }
-        k += 1;
-    }
-    false
+    (0..n).any(|k| stray_at(k, p, i, lp, li, next))
 }
 
 // The same, once all rows are met that can be.

@@ -3,12 +3,11 @@ use mathlib.Core.Bool.{Bool, cond}
 use mathlib.Core.List.{List, [], ◌∷◌, flatten}
 use mathlib.Core.Logic.{◌⊎◌, ⊎_elim}
 use mathlib.Core.Path.{◌≡◌, refl, sym, ap, ◌∙◌}
-use Prim.Native.Nat.{ℕ, ◌+◌, ◌≤◌, ◌<◌}
+use Prim.Native.Nat.{ℕ, ◌+◌, ◌≤◌}
 use native.Mathlib.Omega.{arith}
 use lib.Dec.{eqb}
 use lib.Ieee.{Float}
-use lib.ListN.{length, get_or, set}
-use borrow.Author.Tests.{eq-eqb, ne_eqb}
+use lib.ListN.{length, get_or}
 use Rattle.lists.specs.Calls.{lowest, cleared, onto, none, Scratch, scratch, wiped, worked, lent, leaves}
 use Rattle.lists.specs.Parts.{part, placed}
 use Rattle.lists.proofs.Calls.{wiped_each}
@@ -23,20 +22,11 @@ use Rattle.cs_cholesky.specs.declared.Factored.{Factored}
 use Rattle.cs_cholesky.proofs.Factoring.{factor-ends}
 use Rattle.cs_cholesky.proofs.Serving.{Passed, passed}
 use Rattle.cs_cholesky.proofs.Ways.{at_judge, at-end}
-use Rattle.cs_up.specs.Steps.{Ready, Fills}
+use Rattle.cs_up.specs.Steps.{Fills}
 use Rattle.cs_up.specs.Up.{up_step, up as upOf, number}
 use Rattle.cs_up.proofs.Lying.{lies}
 
 -- ---- `close` and `blank`
-pub stored_at : (l : List Float) {s s1 : ℕ} {d d1 : Float} → s ≡ s1 → d ≡ d1 → set l s d ≡ set l s1 d1
-stored_at l e f = rw (e, f)
-
-pub blank_11 : {r : ℕ} {l m : List Float} (n : List Float) → r ≡ 11 → l ≡ m → l ≡ cond (eqb r 11) m n
-blank_11 {r} n e f = rw (eq-eqb r 11 e) f
-
-pub blank_other : {r : ℕ} (l m : List Float) → (r ≡ 11 → ⊥) → l ≡ cond (eqb r 11) m l
-blank_other {r} l m e = rw (ne_eqb r 11 e)
-
 -- it ends with 0, or stops with 11
 pub up_ends : (a : Matrix) → ((upOf a).answer ≡ factored 0 0 none) ⊎ ((upOf a).answer.number ≡ 11)
 unfolding upOf
@@ -51,25 +41,12 @@ module _ {n : ℕ} {p i : List ℕ} {v : List Float} {up ui lp li : List ℕ} {l
   abbrev f : Outcome
   f = upOf (matrix n n p i v)
 
-  pub fill_in_lp : n < length lp
-  fill_in_lp = (lies R.served).lp_long
-
   module _ {t : ℕ} (g : t ≡ get_or lp n 0) where
     t_is : t ≡ size
     t_is = g ∙ (lies R.served).end
 
     pub fill_in_lx : t ≤ length lx
     fill_in_lx = omega (arith, t_is, R.served.roomy)
-
-    pub fill_asks : Ready n p i v up ui lp li (part 0 t lx) (part 0 n next) (part 0 n x)
-    fill_asks = record {
-      room = length lx;
-      served = R.served;
-      lx_long = part_long t lx fill_in_lx ∙ t_is;
-      next_long = part_long n next R.in_next;
-      x_long = part_long n x R.in_x;
-      zeros = R.zeros;
-    }
 
     module _ {s : Factored} {lx1 : List Float} (F : (s ≡ f.answer) × (s.number ≡ 0 → lx1 ≡ flatten f.columns))
         (l : length lx1 ≡ length (part 0 t lx)) where

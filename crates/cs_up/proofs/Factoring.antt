@@ -21,7 +21,7 @@ use Rattle.cs_pattern.specs.Columns.{columns}
 use Rattle.cs_cholesky.specs.Factor.{Step, Outcome, factored, factor}
 use Rattle.cs_cholesky.specs.declared.Factored.{Factored}
 use Rattle.cs_cholesky.proofs.Factoring.{Reached, reached-start, reached-turn, reached_stop, reached-end}
-use Rattle.cs_up.specs.Steps.{held, Stands, Closes, Ready, Turns, Gone}
+use Rattle.cs_up.specs.Steps.{held, Stands, Closes, Ready, Gone}
 use Rattle.cs_up.specs.Up.{up_step, up as upOf}
 use Rattle.cs_up.proofs.Lying.{lies, upward}
 use Rattle.cs_up.proofs.Rowing.{climbs}
@@ -75,9 +75,6 @@ module _ {n : ℕ} {p i : List ℕ} {v : List Float} {up ui lp li : List ℕ} {l
   R = w.ready
 
   module _ (h : k < n) where
-    pub factoring_asks : Turns k p i v up ui lp li lx next x
-    factoring_asks = record { n = n; here = h; ready = R; stands = w.stands }
-
     module _ {lx1 : List Float} {next1 : List ℕ} {x1 : List Float} {pivot : Float} (g : Gone k p i v up ui lp li lx next x lx1 next1 x1 pivot) where
       pub factoring_stop : not (lt none pivot) ≡ true → Owed n p i v (factored 11 k pivot) lx1
       factoring_stop t =

@@ -85,9 +85,6 @@ module _ {n k : ℕ} {p i : List ℕ} {v : List Float} {up ui lp li : List ℕ} 
   in_us : k < length us
   in_us = omega (arith, S.u_long)
 
-  pub in-up : k + 1 < length up
-  in-up = omega (arith, S.u_laid.pointed.long, S.u_long)
-
   -- U's column
   module _ {b f : ℕ} (y : b ≡ get_or up k 0) (z : f ≡ get_or up (k + 1) 0) where
     pub upper_order : b ≤ f

@@ -13,14 +13,12 @@ fn load(k: usize, rows: &[u32], vals: &[f64], x: &mut [f64])
     requires { Loads k rows.now vals.now x.old }
     ensures { x.new ≡ over (put_at k) rows.now vals.now x.old }
 {
-    let mut q = 0;
-    while q < rows.len() {
-        let i = wide(rows[q]);
+    for (q, &row) in rows.iter().enumerate() {
+        let i = wide(row);
         if i > k {
             return;
         }
         x[i] = vals[q];
-        q += 1;
     }
 }
 

@@ -73,19 +73,16 @@ fn factor(
     ensures { let f = upOf (matrix n n p.now i.now v.now) in
         (result ≡ f.answer) × (result.number ≡ 0 → lx.new ≡ flatten f.columns) }
 {
-    let mut k = 0;
-    while k < n {
+    for k in 0..n {
         let pivot = column(k, p, i, v, up, ui, lp, li, lx, next, x);
         if !(pivot > 0.0) {
-            let column = k as u32;
             return Factored {
                 number: 11,
-                column: column,
-                pivot: pivot,
+                column: k as u32,
+                pivot,
             };
         }
         close(k, pivot, lp, lx, next);
-        k += 1;
     }
     refused(0)
 }

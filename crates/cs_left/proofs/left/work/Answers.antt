@@ -1,17 +1,7 @@
 -- `work` meets its contract. Assumes nothing.
 use mathlib.Core.Path.{refl}
-use native.Mathlib.Omega.{arith}
 use Rattle.cs_left.proofs.Working.{work_blank, work-whole}
 use Rattle.cs_left.proofs.left.work.Goals as goal
-
-pub factor-answer-requires : goal.factor-answer-requires
-factor-answer-requires c = c.requires
-
-pub offset_bounds-up-n : goal.offset_bounds-up-n
-offset_bounds-up-n c = omega (arith, c.requires.served.valid.pattern.cols)
-
-pub bounds-up-n : goal.bounds-up-n
-bounds-up-n c = omega (arith, c.requires.served.u_laid.pointed.long, c.requires.served.u_long)
 
 pub returns-then-answer-eq11 : goal.returns-then-answer-eq11
 returns-then-answer-eq11 c = work_blank c.requires.served _ _ c.factor-answer.ensures refl c.factor-answer.auto.lx c.if-answer-eq11.true
