@@ -8,6 +8,9 @@ use native.Mathlib.Numerals.{add-one}
 use native.Mathlib.Omega.{arith}
 use lib.ListN.{length, get_or, set, take, drop, length-set, get_or-eq_default, get_or-append}
 use lib.Seq.{get_or-set_same, get_or-set_other}
+use Rattle.std.proofs.Common.{nat_cmp}
+use Rattle.std.proofs.lemmas.Bool.Decides.{nat_tests}
+use Rattle.std.specs.Ordering.{ord_max}
 use Rattle.lists.specs.Calls.{onto, cleared}
 use Rattle.lists.specs.Keys.{of_key, by_key}
 use Rattle.lists.specs.Tables.{table}
@@ -106,31 +109,29 @@ pub raising_start : (p : List ℕ) → Raising p p 0 0
 unfolding highest
 raising_start p = record { long = refl; within = omega arith; done = λ q h. absurd (omega arith); rest = λ q h. refl; top = refl }
 
-module _ {p₀ p : List ℕ} {high k : ℕ} (v : Raising p₀ p high k) (h : k < length p) where
-  next : (x : ℕ) → x ≡ max high (get_or p k 0) → Raising p₀ (set p k x) x (k + 1)
+max-is : (a b : ℕ) → ord_max nat_cmp a b ≡ max a b
+max-is a b = grind (arith, nat_tests)
+
+module _ {p₀ p : List ℕ} {high k : ℕ} (v : Raising p₀ p high k) (h : k < length p₀) where
+  pub raising_turn : (x : ℕ) → x ≡ ord_max nat_cmp high (get_or p k 0) → Raising p₀ (set p k x) x (k + 1)
   unfolding highest
-  next x e =
-      let t : x ≡ highest p₀ (suc k) = omega (arith, e, v.top, v.rest k (omega arith)) in
+  raising_turn x e =
+      let t : x ≡ highest p₀ (suc k) = omega (arith, e, max-is high (get_or p k 0), v.top, v.rest k (omega arith)) in
+      let i : k < length p = omega (arith, v.long) in
       record {
         long = length-set p k x ∙ v.long;
         within = omega (arith, v.long);
         done =
             λ q l.
             ⊎_elim
-            (λ (f : q ≡ k). rw f (get_or-set_same p k x 0 h ∙ t))
+            (λ (f : q ≡ k). rw f (get_or-set_same p k x 0 i ∙ t))
             (λ (f : q < k). get_or-set_other p k q x 0 (λ e. omega arith) ∙ v.done q f)
             (eq-or-lt_of_le (omega arith));
         rest = λ q l. get_or-set_other p k q x 0 (λ e. omega arith) ∙ v.rest q (omega arith);
         top = rw (add-one k) t;
       }
 
-  pub raising_higher : high < get_or p k 0 → Raising p₀ (set p k (get_or p k 0)) (get_or p k 0) (k + 1)
-  raising_higher g = next (get_or p k 0) (omega arith)
-
-  pub raising_same : get_or p k 0 ≤ high → Raising p₀ (set p k high) high (k + 1)
-  raising_same g = next high (omega arith)
-
-pub raising_done : {p₀ p : List ℕ} {high k : ℕ} → Raising p₀ p high k → length p ≤ k → Raised p₀ p
+pub raising_done : {p₀ p : List ℕ} {high k : ℕ} → Raising p₀ p high k → length p₀ ≤ k → Raised p₀ p
 raising_done v h = record { long = v.long; high = λ q l. v.done q (omega (arith, v.long)) }
 
 -- ---- where each column starts

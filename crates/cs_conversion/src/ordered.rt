@@ -16,13 +16,11 @@ pub fn in_order(rows: &[u32], cols: &[u32]) -> bool
     ensures { result ≡ true → Ordered rows.now cols.now }
 {
     let mut bad: u32 = 0;
-    let mut k = 1;
-    while k < rows.len() {
+    for k in 1..rows.len() {
         let last = cols[k - 1] * 65536 + rows[k - 1];
         if cols[k] * 65536 + rows[k] <= last {
             bad = 1;
         }
-        k += 1;
     }
     bad == 0
 }

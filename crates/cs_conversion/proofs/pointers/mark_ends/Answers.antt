@@ -9,11 +9,11 @@ loop-k-init c = ending_start c.requires.0 c.requires.1
 pub overflow_cast-p : goal.overflow_cast-p
 overflow_cast-p c = omega (arith, k_fits c.loop-k.invariant c.loop-k-test.true)
 
-pub bounds-p-c : goal.bounds-p-c
-bounds-p-c c = rw c.wide-c.ensures.0 (c_in c.loop-k.invariant c.loop-k-test.true)
+pub bounds-p-wide : goal.bounds-p-wide
+bounds-p-wide c = rw c.wide.ensures.0 (c_in c.loop-k.invariant c.loop-k-test.true)
 
 pub loop-k-preserved : goal.loop-k-preserved
-loop-k-preserved c = rw c.wide-c.ensures.0 (ending_turn c.loop-k.invariant c.loop-k-test.true)
+loop-k-preserved c = rw c.wide.ensures.0 (ending_turn c.loop-k.invariant c.loop-k-test.true)
 
 pub shape_of-p : goal.shape_of-p
 shape_of-p c = c.loop-k.invariant.long

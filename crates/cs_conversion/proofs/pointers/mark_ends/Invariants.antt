@@ -6,6 +6,3 @@ use Rattle.cs_conversion.proofs.pointers.mark_ends.Given as goal
 
 abbrev pub invariant-loop-k : goal.invariant-loop-k
 invariant-loop-k l = Ending l.cols l.initial.p l.p l.k
-
-abbrev pub decreases-loop-k : goal.decreases-loop-k
-decreases-loop-k l = length l.cols - l.k
