@@ -14,10 +14,7 @@ pub fn judge(nrows: usize, ncols: usize, p: &[u32], i: &[u32], v: &[f64], m: usi
     ensures { result ≡ lowest (judged_solve (matrix nrows ncols p.now i.now v.now) m) }
 {
     let refused = check(nrows, ncols, p, i, v);
-    if nrows != ncols {
-        return lower(refused, 2);
-    }
-    if m != ncols {
+    if nrows != ncols || m != ncols {
         return lower(refused, 2);
     }
     refused

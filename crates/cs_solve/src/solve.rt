@@ -22,13 +22,11 @@ use lists::tight::tight;
 fn lower_rows(j: usize, x: f64, rows: &[u32], vals: &[f64], b: &mut [f64])
     ensures { b.new ≡ over (lower_at j x) rows.now vals.now b.old }
 {
-    let mut k = 0;
-    while k < rows.len() && k < vals.len() {
-        let i = wide(rows[k]);
+    for (&row, &value) in rows.iter().zip(vals) {
+        let i = wide(row);
         if j < i && i < b.len() {
-            b[i] = b[i] - x * vals[k];
+            b[i] = b[i] - x * value;
         }
-        k += 1;
     }
 }
 
@@ -37,10 +35,8 @@ fn lower_run(x: f64, vals: &[f64], b: &mut [f64])
     ensures { b.new ≡ zipped (λ y v. sub binary64 y (mul binary64 x v)) b.old vals.now }
 {
     let n = smaller(vals.len(), b.len());
-    let mut k = 0;
-    while k < n {
+    for k in 0..n {
         b[k] = b[k] - x * vals[k];
-        k += 1;
     }
 }
 
@@ -51,14 +47,10 @@ fn lower_column(j: usize, x: f64, rows: &[u32], vals: &[f64], b: &mut [f64])
     ensures { b.new ≡ over (lower_at j x) rows.now vals.now b.old }
 {
     let n = rows.len();
-    if n > 8 {
-        if wide(rows[0]) == j {
-            if tight(&rows[1..n]) {
-                let first = wide(rows[1]);
-                lower_run(x, &vals[1..n], &mut b[first..first + (n - 1)]);
-                return;
-            }
-        }
+    if n > 8 && wide(rows[0]) == j && tight(&rows[1..n]) {
+        let first = wide(rows[1]);
+        lower_run(x, &vals[1..n], &mut b[first..first + (n - 1)]);
+        return;
     }
     lower_rows(j, x, rows, vals, b);
 }

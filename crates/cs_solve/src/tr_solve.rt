@@ -18,14 +18,11 @@ fn raised(j: usize, rows: &[u32], vals: &[f64], b: &[f64]) -> f64
     ensures { set b.now j result ≡ over (raise_at j) rows.now vals.now b.now }
 {
     let mut y = b[j];
-    let mut k = 0;
-    while k < rows.len() {
-        let i = wide(rows[k]);
+    for (&row, &value) in rows.iter().zip(vals) {
+        let i = wide(row);
         if j < i {
-            let value = vals[k];
             y = y - value * b[i];
         }
-        k += 1;
     }
     y
 }
@@ -44,9 +41,7 @@ fn transposed(n: usize, p: &[u32], i: &[u32], v: &[f64], b: &mut [f64])
     requires { Valid (matrix n n p.now i.now v.now) × (length b.old ≡ n) }
     ensures { b.new ≡ transposedOf (matrix n n p.now i.now v.now) b.old }
 {
-    let mut j = n;
-    while j > 0 {
-        j -= 1;
+    for j in (0..n).rev() {
         let a = wide(p[j]);
         let e = wide(p[j + 1]);
         let d = value_at(j, &i[a..e], &v[a..e]);

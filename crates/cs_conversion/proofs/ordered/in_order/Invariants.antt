@@ -1,6 +1,4 @@
 -- `in_order` meets its contract. Assumes nothing.
-use Prim.Native.Nat.{◌-◌}
-use lib.ListN.{length}
 use Rattle.cs_conversion.proofs.InOrder.{Watching}
 use Rattle.cs_conversion.proofs.ordered.in_order.Given as goal
 

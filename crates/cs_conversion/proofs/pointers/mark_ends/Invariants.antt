@@ -1,6 +1,4 @@
 -- `mark_ends` meets its contract. Assumes nothing.
-use Prim.Native.Nat.{◌-◌}
-use lib.ListN.{length}
 use Rattle.cs_conversion.proofs.Pointing.{Ending}
 use Rattle.cs_conversion.proofs.pointers.mark_ends.Given as goal
 
