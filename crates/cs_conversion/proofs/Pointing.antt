@@ -39,32 +39,6 @@ pub record Raising (p₀ p : List ℕ) (high k : ℕ) : Type 0 where
   pub rest : (q : ℕ) → k ≤ q → get_or p q 0 ≡ get_or p₀ q 0
   pub top : high ≡ highest p₀ k
 
-pub raising_start : (p : List ℕ) → Raising p p 0 0
-unfolding highest
-raising_start p = record { long = refl; within = omega arith; done = λ q h. absurd (omega arith); rest = λ q h. refl; top = refl }
-
-max-is : (a b : ℕ) → ord_max nat_cmp a b ≡ max a b
-max-is a b = grind (arith, nat_tests)
-
-module _ {p₀ p : List ℕ} {high k : ℕ} (v : Raising p₀ p high k) (h : k < length p₀) where
-  pub raising_turn : (x : ℕ) → x ≡ ord_max nat_cmp high (get_or p k 0) → Raising p₀ (set p k x) x (k + 1)
-  unfolding highest
-  raising_turn x e =
-      let t : x ≡ highest p₀ (suc k) = omega (arith, e, max-is high (get_or p k 0), v.top, v.rest k (omega arith)) in
-      let i : k < length p = omega (arith, v.long) in
-      record {
-        long = length-set p k x ∙ v.long;
-        within = omega (arith, v.long);
-        done =
-            λ q l.
-            ⊎_elim
-            (λ (f : q ≡ k). rw f (get_or-set_same p k x 0 i ∙ t))
-            (λ (f : q < k). get_or-set_other p k q x 0 (λ e. omega arith) ∙ v.done q f)
-            (eq-or-lt_of_le (omega arith));
-        rest = λ q l. get_or-set_other p k q x 0 (λ e. omega arith) ∙ v.rest q (omega arith);
-        top = rw (add-one k) t;
-      }
-
 -- ---- where each column starts
 module _ {cols p : List ℕ} (o : Climbing cols) (e : Ends (length cols) cols p) where
   abbrev G : ℕ → ℕ
