@@ -109,11 +109,10 @@ pub fn solve_lower_triangular(
             column: 0,
         };
     }
-    let lacking = first_lacking(ncols, p, i, v);
-    if lacking < ncols {
+    if let Some(column) = first_lacking(ncols, p, i, v) {
         return Solved {
             number: 10,
-            column: lacking as u32,
+            column: column as u32,
         };
     }
     forward(ncols, p, i, v, b);

@@ -69,11 +69,10 @@ pub fn tr_solve_lower_triangular(
             column: 0,
         };
     }
-    let lacking = last_lacking(ncols, p, i, v);
-    if lacking < ncols {
+    if let Some(column) = last_lacking(ncols, p, i, v) {
         return Solved {
             number: 10,
-            column: lacking as u32,
+            column: column as u32,
         };
     }
     transposed(ncols, p, i, v, b);

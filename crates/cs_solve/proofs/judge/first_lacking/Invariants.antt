@@ -7,6 +7,3 @@ use Rattle.cs_solve.proofs.judge.first_lacking.Given as goal
 
 abbrev pub invariant-loop-j : goal.invariant-loop-j
 invariant-loop-j l = Upward l.n (lacking (matrix l.n l.n l.p l.i l.v)) l.j
-
-abbrev pub decreases-loop-j : goal.decreases-loop-j
-decreases-loop-j l = l.n - l.j

@@ -1,11 +1,10 @@
--- `lower_rows`: the loop of proofs/Steps.antt. Assumes nothing.
-use Prim.Native.Nat.{◌-◌}
-use lib.ListN.{length}
-use Rattle.cs_solve.proofs.Steps.{Lowering}
+-- `lower_rows`: what is left of the rows and values gives, from the values of now, what all of them give. Assumes nothing.
+use Rattle.std.proofs.Common.{◌≡◌}
+use Rattle.std.specs.Iterator.Adapters.{zip_first, zip_second}
+use Rattle.std.specs.Slice.Iter.{iter_rest}
+use Rattle.lists.specs.Folds.{over}
+use Rattle.cs_solve.specs.Solve.{lower_at}
 use Rattle.cs_solve.proofs.solve.lower_rows.Given as goal
 
-abbrev pub invariant-loop-k : goal.invariant-loop-k
-invariant-loop-k l = Lowering l.j l.x l.rows l.vals l.initial.b l.b l.k
-
-abbrev pub decreases-loop-k : goal.decreases-loop-k
-decreases-loop-k l = length l.rows - l.k
+abbrev pub invariant-loop-row : goal.invariant-loop-row
+invariant-loop-row l = over (lower_at l.j l.x) l.rows l.vals l.initial.b ≡ over (lower_at l.j l.x) (iter_rest (zip_first l.row-iterator)) (iter_rest (zip_second l.row-iterator)) l.b

@@ -6,6 +6,3 @@ use Rattle.cs_solve.proofs.solve.lower_run.Given as goal
 
 abbrev pub invariant-loop-k : goal.invariant-loop-k
 invariant-loop-k l = Zipping (λ y v. sub binary64 y (mul binary64 l.x v)) l.vals l.initial.b l.n l.b l.k
-
-abbrev pub decreases-loop-k : goal.decreases-loop-k
-decreases-loop-k l = l.n - l.k
