@@ -3,21 +3,19 @@ use mathlib.Core.Path.{◌≡◌, refl, sym, ap, ◌∙◌}
 use mathlib.Core.Bool.{Bool, true, false, cond}
 use mathlib.Core.List.{List, [], ◌∷◌}
 use mathlib.Core.Logic.{⊎_elim}
-use Prim.Native.Nat.{ℕ, ◌+◌, ◌≤◌, ◌<◌}
+use Prim.Native.Nat.{ℕ, ◌≤◌, ◌<◌}
 use native.Mathlib.Omega.{arith}
 use lib.Dec.{ltb}
 use lib.Ieee.{Float, nan, binary64, sub, mul, div}
 use lib.ListN.{length, get_or, set, length-set}
-use lib.Seq.{set_out, set-set, set-get_or, get_or-set_same, get_or-set_other}
+use lib.Seq.{set_out, set-set, get_or-set_same, get_or-set_other}
 use borrow.Author.Tests.{lt-ltb, le-ltb}
 use Rattle.lists.specs.Folds.{over}
 use Rattle.lists.proofs.Bools.{le-or-lt}
-use Rattle.lists.proofs.Folds.{Over, over-start, over-turn, over-end}
-use Rattle.lists.proofs.Pairs.{Paired, paired-start, paired-turn}
 use Rattle.lists.proofs.Positions.{over-keeps}
 use Rattle.cs_matrix.specs.Matrix.{Matrix}
 use Rattle.cs_solve.specs.Solve.{lower_at, forward_at, forward_column}
-use Rattle.cs_solve.specs.TrSolve.{raise_at, transposed_at, Column}
+use Rattle.cs_solve.specs.TrSolve.{raise_at, transposed_at}
 
 -- ---- forward: the lower rows
 module _ (j : ℕ) (x : Float) (i : ℕ) (v : Float) (b : List Float) where

@@ -71,11 +71,6 @@ pub record Transposing (n : ℕ) (p i : List ℕ) (v b₀ b : List Float) (k : �
   pub whole : length b₀ ≡ n
   pub rest : Falls (transposed_column (matrix n n p i v)) n b₀ b k
 
-pub transposing_start : {n : ℕ} {p i : List ℕ} {v : List Float} → Valid (matrix n n p i v) → {b : List Float} → length b ≡ n →
-    Transposing n p i v b b n
-transposing_start {n} {p} {i} {v} a {b} l =
-    record { valid = a; long = refl; whole = l; rest = falls-start (transposed_column (matrix n n p i v)) n b }
-
 module _ {n : ℕ} {p i : List ℕ} {v b₀ b : List Float} {k : ℕ} (w : Transposing n p i v b₀ b k) (h : 0 < k) where
   pub k_in_n : k - 1 < n
   k_in_n = omega (arith, w.rest.within)

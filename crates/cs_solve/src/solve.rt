@@ -15,7 +15,7 @@ ghost use Rattle.cs_solve.specs.TrSolve.{Column};
 use crate::Solved;
 use crate::diagonal::value_at;
 use crate::judge::{first_lacking, judge};
-use lists::numbers::{smaller, wide};
+use lists::numbers::wide;
 use lists::tight::tight;
 
 // b(i) = b(i) - (x times value) for the lower rows i of column j.
@@ -34,8 +34,7 @@ fn lower_rows(j: usize, x: f64, rows: &[u32], vals: &[f64], b: &mut [f64])
 fn lower_run(x: f64, vals: &[f64], b: &mut [f64])
     ensures { b.new ≡ zipped (λ y v. sub binary64 y (mul binary64 x v)) b.old vals.now }
 {
-    let n = smaller(vals.len(), b.len());
-    for k in 0..n {
+    for k in 0..vals.len().min(b.len()) {
         b[k] = b[k] - x * vals[k];
     }
 }

@@ -16,13 +16,11 @@ use lists::numbers::wide;
 pub fn put(rows: &[u32], vals: &[f64], x: &mut [f64])
     ensures { x.new ≡ over put_at rows.now vals.now x.old }
 {
-    let mut k = 0;
-    while k < rows.len() && k < vals.len() {
-        let r = wide(rows[k]);
+    for (&row, &value) in rows.iter().zip(vals) {
+        let r = wide(row);
         if r < x.len() {
-            x[r] = vals[k];
+            x[r] = value;
         }
-        k += 1;
     }
 }
 

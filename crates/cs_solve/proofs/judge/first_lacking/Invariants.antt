@@ -1,5 +1,4 @@
 -- `first_lacking`: the walk that looks for the first. Assumes nothing.
-use Prim.Native.Nat.{◌-◌}
 use Rattle.lists.proofs.Choices.{Upward}
 use Rattle.cs_solve.specs.Diagonal.{lacking}
 use Rattle.cs_matrix.specs.Matrix.{matrix}

@@ -1,5 +1,4 @@
 -- `forward`: the loop of proofs/Turns.antt. Assumes nothing.
-use Prim.Native.Nat.{◌-◌}
 use Rattle.cs_solve.proofs.Turns.{Forwarding}
 use Rattle.cs_solve.proofs.solve.forward.Given as goal
 

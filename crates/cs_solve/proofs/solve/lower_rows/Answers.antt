@@ -1,13 +1,11 @@
 -- `lower_rows`: what is left of the rows and values gives, from the values of now, what all of them give. Assumes nothing.
-use Rattle.std.proofs.Common.{sym, ap, arith, ◌∙◌}
+use Rattle.std.proofs.Common.{sym, arith, ◌∙◌}
 use Rattle.std.proofs.lemmas.Slice.Zip.{Zip-more, either_empty_from_Zip}
 use Rattle.std.proofs.lemmas.Bool.Decides.{nat_tests}
 use Rattle.std.proofs.lemmas.Grind.{common_steps}
-use Rattle.lists.specs.Folds.{over}
 use Rattle.lists.proofs.Folds.{over_first}
 use Rattle.cs_solve.specs.Solve.{lower_at}
 use Rattle.cs_solve.proofs.Sides.{over_ended}
-use Rattle.cs_solve.proofs.Steps.{lower-set, lower-above, lower_out}
 use Rattle.cs_solve.proofs.solve.lower_rows.Goals as goal
 
 pub loop-row-preserved-then-i-b : goal.loop-row-preserved-then-i-b

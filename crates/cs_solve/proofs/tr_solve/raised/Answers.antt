@@ -2,7 +2,6 @@
 use Rattle.std.proofs.Common.{sym, ap, arith, ◌∙◌}
 use Rattle.std.proofs.lemmas.Slice.Zip.{Zip-more, either_empty_from_Zip}
 use Rattle.std.proofs.lemmas.Bool.Decides.{nat_tests}
-use Rattle.std.proofs.lemmas.Grind.{common_steps}
 use Rattle.lists.specs.Folds.{over}
 use Rattle.lists.proofs.Folds.{over_first}
 use Rattle.cs_solve.specs.TrSolve.{raise_at}
