@@ -25,6 +25,7 @@ use Rattle.lists.proofs.Chosen.{some_of-append, chosen_alike, chosen-within}
 use Rattle.cs_solve_cs.proofs.Marking.{length-mark_all, marked_all}
 use Rattle.cs_solve_cs.proofs.Naming.{NamesIn, names_none, names-not, names_before, names_new}
 use Rattle.std.proofs.Common.{Option, Some, None}
+use Rattle.std.specs.Option.{is_some}
 
 module _ (a : Pattern) (rows : List ℕ) where
   abbrev below : ℕ → List ℕ
@@ -128,16 +129,18 @@ module _ {n : ℕ} {p i : List ℕ} {v : List Float} {rows w : List ℕ} {count 
   abbrev pub Seen : Option ℕ → Type 0
   Seen x = NamesIn n (lacking (matrix n n p i v)) (reached_below a rows m ++ (m ∷ [])) x
 
-  pub seen_before : {k : ℕ} → least ≡ Some k → Seen least
-  seen_before t = let s = r.lacks in rw t (names_before (lacking (matrix n n p i v)) (reached_below a rows m) m (rw t at s))
+  pub seen_before : is_some least ≡ true → Seen least
+  seen_before t = names_before n (lacking (matrix n n p i v)) (reached_below a rows m) m least t r.lacks
 
   module _ {s e : ℕ} {d : Float} (b : Handed p i v m s e) (q : d ≡ value_at m (part s e i) (part s e v)) where
-    pub seen_new : least ≡ None → eq d none ≡ true → Seen (Some m)
-    seen_new t u = let s = r.lacks in
-        names_new (lacking (matrix n n p i v)) (reached_below a rows m) m (lacking-is (matrix n n p i v) m (diagonal-is n n b q) u) h (rw t at s)
+    lacks-is : {t : Bool} → eq d none ≡ t → lacking (matrix n n p i v) m ≡ t
+    lacks-is u = lacking-is (matrix n n p i v) m (diagonal-is n n b q) u
+
+    pub seen_new : is_some least ≡ false → eq d none ≡ true → Seen (Some m)
+    seen_new t u = names_new n (lacking (matrix n n p i v)) (reached_below a rows m) m least t (lacks-is u) h r.lacks
 
     pub seen_not : eq d none ≡ false → Seen least
-    seen_not u = names-not (lacking (matrix n n p i v)) (reached_below a rows m) m (lacking-is (matrix n n p i v) m (diagonal-is n n b q) u) r.lacks
+    seen_not u = names-not n (lacking (matrix n n p i v)) (reached_below a rows m) m least (lacks-is u) r.lacks
 
   pub reaching_on : {s e : ℕ} {x : Option ℕ} {w' : List ℕ} → (get_or w m 0 ≡ 0 → ⊥) → Handed p i v m s e → Seen x → w' ≡ mark_all (m + 1) (part s e i) w →
       Reaching n p i v rows w' (count + 1) x (m + 1)

@@ -128,7 +128,7 @@ module _ (n : ℕ) (p i : List ℕ) (v : List Float) (bi : List ℕ) (bv : List 
       pub room : {x : List Float} → n ≤ length w → n ≤ length x → Room n w x old.i old.v
       room j k = record { small = h; w_long = j; x_long = k; in_i = rw u (omega (arith, e)); in_v = rw u (omega (arith, e)) }
 
-      module _ {q : Option ℕ} (d : Names n (keep (lacking a) l) (first_or 0 (keep (lacking a) l)) q) where
+      module _ (q : Option ℕ) (d : Names n (keep (lacking a) l) (first_or 0 (keep (lacking a) l)) q) where
         lacks : Names n (lacking_reached a b) (first_or 0 (lacking_reached a b)) q
         unfolding lacking_reached
         lacks = d
