@@ -83,8 +83,10 @@ fn forward(n: usize, p: &[u32], i: &[u32], v: &[f64], b: &mut [f64])
     for j in 0..n {
         let a = wide(p[j]);
         let e = wide(p[j + 1]);
-        let d = value_at(j, &i[a..e], &v[a..e]);
-        forward_column(j, d, &i[a..e], &v[a..e], b);
+        let rows = &i[a..e];
+        let vals = &v[a..e];
+        let d = value_at(j, rows, vals);
+        forward_column(j, d, rows, vals, b);
     }
 }
 

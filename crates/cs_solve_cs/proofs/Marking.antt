@@ -61,9 +61,6 @@ pub record Marking (from : ℕ) (rows w₀ w : List ℕ) (k : ℕ) : Type 0 wher
   pub long : length w ≡ length w₀
   pub rest : Along (mark_at from) rows w₀ w k
 
-pub marking_start : (from : ℕ) (rows w : List ℕ) → Marking from rows w w 0
-marking_start from rows w = record { long = refl; rest = along-start (mark_at from) rows w }
-
 module _ {from : ℕ} {rows w₀ w : List ℕ} {k : ℕ} (v : Marking from rows w₀ w k) (g : k < length rows) {r : ℕ} (e : r ≡ get_or rows k 0) where
   next : {w' : List ℕ} → length w' ≡ length w → w' ≡ mark_at from r w → Marking from rows w₀ w' (k + 1)
   next l q = record { long = l ∙ v.long; rest = along-turn (mark_at from) rows 0 v.rest g (q ∙ (rw e)) }

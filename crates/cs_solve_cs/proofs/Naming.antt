@@ -1,5 +1,5 @@
 -- A search that goes on behind what it found: the first of a list that grows. Assumes nothing.
-use Rattle.std.proofs.Common.{◌≡◌, ℕ, ◌<◌, Bool, true, false, cond, List, [], ◌∷◌, ◌++◌, Option, Some, None, refl, ◌∙◌, append-nil, arith}
+use Rattle.std.proofs.Common.{◌≡◌, ℕ, ◌<◌, Bool, true, false, cond, List, [], ◌∷◌, ◌++◌, Option, Some, None, refl, append-nil}
 use Rattle.std.specs.Option.{is_some}
 use Rattle.lists.specs.Choices.{keep, some, first_or}
 use Rattle.lists.proofs.Chosen.{keep_append}

@@ -35,22 +35,6 @@ module _ (w : List ℕ) (j : ℕ) where
   pub not-marked : get_or w j 0 ≡ 0 → marked w j ≡ false
   not-marked t = rw (eq-eqb (get_or w j 0) 0 t)
 
--- ---- the values put at their rows
-pub record Putting (rows : List ℕ) (vals x₀ x : List Float) (k : ℕ) : Type 0 where
-  pub long : length x ≡ length x₀
-  pub rest : Paired put_at rows vals x₀ x k
-
-pub putting_start : (rows : List ℕ) (vals x : List Float) → Putting rows vals x x 0
-putting_start rows vals x = record { long = refl; rest = paired-start put_at rows vals x }
-
-module _ {rows : List ℕ} {vals x₀ x : List Float} {k : ℕ} (v : Putting rows vals x₀ x k) (g : k < length rows) (h : k < length vals) {r : ℕ}
-    (e : r ≡ get_or rows k 0) where
-  pub putting_set : Putting rows vals x₀ (set x r (get_or vals k nan)) (k + 1)
-  putting_set = record { long = length-set x r (get_or vals k nan) ∙ v.long; rest = paired-turn put_at rows vals 0 nan v.rest g h (rw e) }
-
-  pub putting_out : length x ≤ r → Putting rows vals x₀ x (k + 1)
-  putting_out l = record { long = v.long; rest = paired-turn put_at rows vals 0 nan v.rest g h (sym (set_out x r (get_or vals k nan) l) ∙ (rw e)) }
-
 -- ---- the forward steps: a column changes no value above its own
 module _ (j k : ℕ) (h : k < j) where
   abbrev at_k : List Float → Float
@@ -226,9 +210,6 @@ module _ {n : ℕ} {p i : List ℕ} {v : List Float} {w : List ℕ} {x₀ : List
             rows = g.rows;
             vals = rw f g.vals;
           }
-
-      pub value_in : j < length y
-      value_in = omega (arith, moved.ask.x_long)
 
       module _ (t : get_or w j 0 ≡ 0 → ⊥) where
         pub out_i : at < length xi

@@ -10,7 +10,7 @@ use lib.Ieee.{Float, nan, binary64, fits}
 use lib.ListN.{length, get_or, replicate, length-map}
 use Rattle.std.proofs.Common.{Option, Some, None}
 use Rattle.std.proofs.lemmas.Bool.Decides.{nat_tests}
-use borrow.Author.Tests.{lt-ltb, le-ltb, eq-eqb, ne_eqb, eqb-true}
+use borrow.Author.Tests.{le-ltb, eq-eqb, ne_eqb, eqb-true}
 use Rattle.lists.specs.Calls.{lowest, both, disagree, lower, onto, none, Scratch, scratch, narrow, cleared, wiped, Lent, lent, outputs, worked}
 use Rattle.lists.specs.Calls.{leaves}
 use Rattle.lists.specs.Choices.{keep, some, first_or}
@@ -124,9 +124,6 @@ module _ (n : ℕ) (p i : List ℕ) (v : List Float) (bi : List ℕ) (bv : List 
     module _ (f : c ≤ length old.i) (g : c ≤ length old.v) (w : List ℕ) (u : marks n w ≡ l) where
       roomy : short (solution a b) old ≡ false
       roomy = short-is h ∙ (rw (le-ltb (length old.i) (length l) (omega (arith, e)), le-ltb (length old.v) (length l) (omega (arith, e))))
-
-      pub room : {x : List Float} → n ≤ length w → n ≤ length x → Room n w x old.i old.v
-      room j k = record { small = h; w_long = j; x_long = k; in_i = rw u (omega (arith, e)); in_v = rw u (omega (arith, e)) }
 
       module _ (q : Option ℕ) (d : Names n (keep (lacking a) l) (first_or 0 (keep (lacking a) l)) q) where
         lacks : Names n (lacking_reached a b) (first_or 0 (lacking_reached a b)) q

@@ -44,10 +44,11 @@ pub fn reach(n: usize, p: &[u32], i: &[u32], v: &[f64], bi: &[u32], w: &mut [u32
             count += 1;
             let a = wide(p[j]);
             let e = wide(p[j + 1]);
-            if lacking.is_none() && value_at(j, &i[a..e], &v[a..e]) == 0.0 {
+            let rows = &i[a..e];
+            if lacking.is_none() && value_at(j, rows, &v[a..e]) == 0.0 {
                 lacking = Some(j);
             }
-            mark(j + 1, &i[a..e], w);
+            mark(j + 1, rows, w);
         }
     }
     Swept { count, lacking }

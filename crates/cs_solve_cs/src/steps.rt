@@ -55,8 +55,10 @@ pub fn forward(
         if w[j] != 0 {
             let a = wide(p[j]);
             let e = wide(p[j + 1]);
-            let d = value_at(j, &i[a..e], &v[a..e]);
-            forward_at(j, d, &i[a..e], &v[a..e], x);
+            let rows = &i[a..e];
+            let vals = &v[a..e];
+            let d = value_at(j, rows, vals);
+            forward_at(j, d, rows, vals, x);
             at = push(j, x[j], at, xi, xv);
         }
     }

@@ -6,17 +6,11 @@ use Rattle.cs_solve.proofs.solve.forward.Goals as goal
 pub loop-j-init : goal.loop-j-init
 loop-j-init c = forwarding_start c.requires.0 c.requires.1
 
-pub slice_bounds-value_at-end : goal.slice_bounds-value_at-end
-slice_bounds-value_at-end c = (handed c.requires.0 c.loop-j-test.true c.wide-a.ensures.0 c.wide-e.ensures.0).inside
+pub slice_bounds-rows-end : goal.slice_bounds-rows-end
+slice_bounds-rows-end c = (handed c.requires.0 c.loop-j-test.true c.wide-a.ensures.0 c.wide-e.ensures.0).inside
 
-pub slice_bounds-value_at-end-in-loop-j : goal.slice_bounds-value_at-end-in-loop-j
-slice_bounds-value_at-end-in-loop-j c = (handed c.requires.0 c.loop-j-test.true c.wide-a.ensures.0 c.wide-e.ensures.0).inside_v
-
-pub slice_bounds-forward_column-end : goal.slice_bounds-forward_column-end
-slice_bounds-forward_column-end c = (handed c.requires.0 c.loop-j-test.true c.wide-a.ensures.0 c.wide-e.ensures.0).inside
-
-pub slice_bounds-forward_column-end-in-loop-j : goal.slice_bounds-forward_column-end-in-loop-j
-slice_bounds-forward_column-end-in-loop-j c = (handed c.requires.0 c.loop-j-test.true c.wide-a.ensures.0 c.wide-e.ensures.0).inside_v
+pub slice_bounds-vals-end : goal.slice_bounds-vals-end
+slice_bounds-vals-end c = (handed c.requires.0 c.loop-j-test.true c.wide-a.ensures.0 c.wide-e.ensures.0).inside_v
 
 pub forward_column-requires : goal.forward_column-requires
 forward_column-requires c = forwarding_asked c.loop-j.invariant c.loop-j-test.true

@@ -4,19 +4,12 @@ use Rattle.cs_solve.proofs.Turns.{transposing_turn, transposing_end, k_in_n, col
 use Rattle.cs_solve.proofs.Columns.{handed}
 use Rattle.cs_solve.proofs.tr_solve.transposed.Goals as goal
 
-pub slice_bounds-value_at-end : goal.slice_bounds-value_at-end
-slice_bounds-value_at-end c = (handed c.requires.0 (k_in_n c.loop-j.invariant c.loop-j-test.true) c.wide-a.ensures.0 c.wide-e.ensures.0).inside
+pub slice_bounds-rows-end : goal.slice_bounds-rows-end
+slice_bounds-rows-end c = (handed c.requires.0 (k_in_n c.loop-j.invariant c.loop-j-test.true) c.wide-a.ensures.0 c.wide-e.ensures.0).inside
 
-pub slice_bounds-value_at-end-in-loop-j : goal.slice_bounds-value_at-end-in-loop-j
-slice_bounds-value_at-end-in-loop-j c = (handed c.requires.0 (k_in_n c.loop-j.invariant c.loop-j-test.true) c.wide-a.ensures.0
+pub slice_bounds-vals-end : goal.slice_bounds-vals-end
+slice_bounds-vals-end c = (handed c.requires.0 (k_in_n c.loop-j.invariant c.loop-j-test.true) c.wide-a.ensures.0
     c.wide-e.ensures.0).inside_v
-
-pub slice_bounds-transposed_at-end : goal.slice_bounds-transposed_at-end
-slice_bounds-transposed_at-end c = (handed c.requires.0 (k_in_n c.loop-j.invariant c.loop-j-test.true) c.wide-a.ensures.0 c.wide-e.ensures.0).inside
-
-pub slice_bounds-transposed_at-end-in-loop-j : goal.slice_bounds-transposed_at-end-in-loop-j
-slice_bounds-transposed_at-end-in-loop-j c =
-    (handed c.requires.0 (k_in_n c.loop-j.invariant c.loop-j-test.true) c.wide-a.ensures.0 c.wide-e.ensures.0).inside_v
 
 pub transposed_at-requires : goal.transposed_at-requires
 transposed_at-requires c = column_asked c.loop-j.invariant c.loop-j-test.true (handed c.requires.0 (k_in_n c.loop-j.invariant c.loop-j-test.true)

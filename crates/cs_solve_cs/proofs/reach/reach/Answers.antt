@@ -1,7 +1,5 @@
 -- `reach`: the loop of proofs/Reaching.antt. Assumes nothing.
-use mathlib.Core.Path.{sym, ap, ◌∙◌}
 use native.Mathlib.Omega.{arith}
-use lib.ListN.{length, length-replicate}
 use Rattle.cs_solve_cs.proofs.Reaching.{reaching_start, reaching_on, reaching_off, seen_before, seen_new, seen_not, reaching_end, count_small}
 use Rattle.cs_solve.proofs.Columns.{handed, j_small}
 use Rattle.cs_solve_cs.proofs.reach.reach.Goals as goal
@@ -14,35 +12,11 @@ pub overflow_add-count : goal.overflow_add-count
 overflow_add-count c = let h = count_small c.loop-j.invariant c.loop-j-test.true in
     record { fits = omega (arith, j_small c.loop-j.invariant.valid c.loop-j-test.true) }
 
-pub slice_bounds-value_at-count : goal.slice_bounds-value_at-count
-slice_bounds-value_at-count c = (handed c.loop-j.invariant.valid c.loop-j-test.true c.wide-a.ensures.0 c.wide-e.ensures.0).order
-
-pub slice_bounds-value_at-start : goal.slice_bounds-value_at-start
-slice_bounds-value_at-start c = (handed c.loop-j.invariant.valid c.loop-j-test.true c.wide-a.ensures.0 c.wide-e.ensures.0).order
+pub slice_bounds-rows-end : goal.slice_bounds-rows-end
+slice_bounds-rows-end c = (handed c.loop-j.invariant.valid c.loop-j-test.true c.wide-a.ensures.0 c.wide-e.ensures.0).inside
 
 pub slice_bounds-value_at-end : goal.slice_bounds-value_at-end
-slice_bounds-value_at-end c = (handed c.loop-j.invariant.valid c.loop-j-test.true c.wide-a.ensures.0 c.wide-e.ensures.0).inside
-
-pub slice_bounds-value_at-count-then-is_none : goal.slice_bounds-value_at-count-then-is_none
-slice_bounds-value_at-count-then-is_none c = (handed c.loop-j.invariant.valid c.loop-j-test.true c.wide-a.ensures.0 c.wide-e.ensures.0).order
-
-pub slice_bounds-value_at-start-then-is_none : goal.slice_bounds-value_at-start-then-is_none
-slice_bounds-value_at-start-then-is_none c = (handed c.loop-j.invariant.valid c.loop-j-test.true c.wide-a.ensures.0 c.wide-e.ensures.0).order
-
-pub slice_bounds-value_at-end-then-is_none : goal.slice_bounds-value_at-end-then-is_none
-slice_bounds-value_at-end-then-is_none c = (handed c.loop-j.invariant.valid c.loop-j-test.true c.wide-a.ensures.0 c.wide-e.ensures.0).inside_v
-
-pub slice_bounds-mark-count : goal.slice_bounds-mark-count
-slice_bounds-mark-count c = (handed c.loop-j.invariant.valid c.loop-j-test.true c.wide-a.ensures.0 c.wide-e.ensures.0).order
-
-pub slice_bounds-mark-start : goal.slice_bounds-mark-start
-slice_bounds-mark-start c = (handed c.loop-j.invariant.valid c.loop-j-test.true c.wide-a.ensures.0 c.wide-e.ensures.0).order
-
-pub slice_bounds-mark-end : goal.slice_bounds-mark-end
-slice_bounds-mark-end c = (handed c.loop-j.invariant.valid c.loop-j-test.true c.wide-a.ensures.0 c.wide-e.ensures.0).inside
-
-pub loop-j-smaller : goal.loop-j-smaller
-loop-j-smaller c = omega (arith, c.loop-j-test.true)
+slice_bounds-value_at-end c = (handed c.loop-j.invariant.valid c.loop-j-test.true c.wide-a.ensures.0 c.wide-e.ensures.0).inside_v
 
 pub loop-j-preserved : goal.loop-j-preserved
 loop-j-preserved c =

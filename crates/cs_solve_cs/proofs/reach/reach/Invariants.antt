@@ -1,5 +1,4 @@
 -- `reach`: the loop of proofs/Reaching.antt. Assumes nothing.
-use Prim.Native.Nat.{◌-◌}
 use Rattle.cs_solve_cs.proofs.Reaching.{Reaching}
 use Rattle.cs_solve_cs.proofs.reach.reach.Given as goal
 

@@ -1,5 +1,4 @@
 -- `forward`: the loop of proofs/Stepping.antt. Assumes nothing.
-use Prim.Native.Nat.{◌-◌}
 use Rattle.cs_solve_cs.proofs.Stepping.{Serving}
 use Rattle.cs_solve_cs.proofs.steps.forward.Given as goal
 
