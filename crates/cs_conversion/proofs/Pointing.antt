@@ -1,26 +1,21 @@
 -- The loops of `mark_ends` and of `raise`, and the pointers that they leave where the columns never fall. Assumes nothing.
-use mathlib.Core.Path.{◌≡◌, refl, sym, ap, ◌∙◌}
+use mathlib.Core.Path.{◌≡◌, sym, ap, ◌∙◌}
 use mathlib.Core.List.{List, [], ◌++◌}
 use mathlib.Core.Logic.{⊎_elim}
-use Prim.Native.Nat.{ℕ, zero, suc, ◌+◌, ◌-◌, ◌≤◌, ◌<◌, ◌^◌, max}
+use Prim.Native.Nat.{ℕ, zero, suc, ◌+◌, ◌-◌, ◌≤◌, ◌<◌, max}
 use native.Mathlib.Nat.{eq-or-lt_of_le}
 use native.Mathlib.Numerals.{add-one}
 use native.Mathlib.Omega.{arith}
-use lib.ListN.{length, get_or, set, take, drop, length-set, get_or-eq_default, get_or-append}
-use lib.Seq.{get_or-set_same, get_or-set_other}
-use Rattle.std.proofs.Common.{nat_cmp}
-use Rattle.std.proofs.lemmas.Bool.Decides.{nat_tests}
-use Rattle.std.specs.Ordering.{ord_max}
+use lib.ListN.{length, get_or, take, drop, get_or-append}
 use Rattle.lists.specs.Calls.{onto, cleared}
 use Rattle.lists.specs.Keys.{of_key, by_key}
 use Rattle.lists.specs.Tables.{table}
-use Rattle.lists.proofs.Bools.{eq-or-ne, le-or-lt}
+use Rattle.lists.proofs.Bools.{eq-or-ne}
 use Rattle.lists.proofs.Keys.{start-more}
 use Rattle.lists.proofs.Ordered.{first_below}
 use Rattle.lists.proofs.Parts.{front}
 use Rattle.lists.proofs.Sorting.{key-none}
 use Rattle.lists.proofs.Tables.{length-table, is-table}
-use Rattle.lists.specs.Keeping.{Zeros}
 use Rattle.cs_conversion.specs.InOrder.{Climbing, Placed, Ends, highest, Raised}
 use Rattle.cs_conversion.proofs.Columns.{cleared_long, kept-once}
 

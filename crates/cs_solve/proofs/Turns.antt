@@ -9,7 +9,7 @@ use lib.ListN.{length}
 use Rattle.lists.specs.Folds.{turns}
 use Rattle.lists.specs.Order.{rises}
 use Rattle.lists.specs.Parts.{part}
-use Rattle.lists.proofs.Folds.{turns-none, turns_more, turns-end, Falls, falls-start, falls-turn, falls-end}
+use Rattle.lists.proofs.Folds.{turns-none, turns_more, turns-end, Falls, falls-turn, falls-end}
 use Rattle.cs_matrix.specs.Matrix.{matrix, Valid, value_at}
 use Rattle.cs_solve.specs.Solve.{forward_at, forward_column, forward}
 use Rattle.cs_solve.specs.TrSolve.{transposed_at, transposed_column, transposed, Column}

@@ -12,7 +12,7 @@ use borrow.Author.Tests.{le-leb, lt-leb, eq-eqb, ne_eqb}
 use Rattle.lists.specs.Folds.{along}
 use Rattle.lists.specs.Order.{lists}
 use Rattle.lists.proofs.Bools.{eq-or-ne}
-use Rattle.lists.proofs.Folds.{Along, along-start, along-turn, along-end}
+use Rattle.lists.proofs.Folds.{Along, along-turn, along-end}
 use Rattle.cs_solve_cs.specs.Steps.{mark_at, mark_all, marked}
 
 module _ (from r : ℕ) (w : List ℕ) where

@@ -6,8 +6,8 @@ use mathlib.Core.Logic.{⊎_elim}
 use Prim.Native.Nat.{ℕ, ◌+◌, ◌≤◌, ◌<◌}
 use native.Mathlib.Omega.{arith}
 use lib.Ieee.{Float, nan, binary64, sub, mul, div}
-use lib.ListN.{length, get_or, set, length-append, length-map, length-set}
-use lib.Seq.{set_out, get_or-set_other}
+use lib.ListN.{length, get_or, set, length-append, length-map}
+use lib.Seq.{get_or-set_other}
 use borrow.Author.Tests.{eq-eqb, ne_eqb}
 use Rattle.lists.specs.Calls.{onto}
 use Rattle.lists.specs.Choices.{chosen}
@@ -15,7 +15,6 @@ use Rattle.lists.specs.Folds.{along}
 use Rattle.lists.specs.Parts.{part}
 use Rattle.lists.proofs.Bools.{le-or-lt}
 use Rattle.lists.proofs.Choices.{chosen_more, chosen-same}
-use Rattle.lists.proofs.Pairs.{Paired, paired-start, paired-turn}
 use Rattle.lists.proofs.Parts.{onto-more, onto-none, length-onto}
 use Rattle.lists.proofs.Positions.{over-keeps}
 use Rattle.cs_matrix.specs.Matrix.{Matrix, matrix, value_at, Valid}
@@ -23,7 +22,6 @@ use Rattle.cs_solve.specs.Solve.{lower_at, forward_at, forward_column}
 use Rattle.cs_solve.proofs.Columns.{Handed}
 use Rattle.cs_solve.proofs.Steps.{lower-set, lower-above, length-forward_column}
 use Rattle.cs_solve.proofs.Turns.{forward-step}
-use Rattle.cs_solve_cs.specs.SolveCs.{put_at}
 use Rattle.cs_solve_cs.specs.Steps.{marked, marks, Room}
 use Rattle.lists.proofs.Chosen.{along-more, map_more, chosen_grows, chosen_member}
 

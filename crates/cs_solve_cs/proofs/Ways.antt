@@ -32,7 +32,7 @@ use Rattle.cs_solve.proofs.Columns.{squared}
 use Rattle.cs_solve_cs.specs.Agree.{Promised}
 use Rattle.cs_solve_cs.specs.Reach.{reached}
 use Rattle.cs_solve_cs.specs.SolveCs.{put_at, right, steps, solution, lacking_reached, judged_cs, Stored, stored, short, written, later, number}
-use Rattle.cs_solve_cs.specs.Steps.{marks, Ready, Room}
+use Rattle.cs_solve_cs.specs.Steps.{marks, Ready}
 use Rattle.cs_solve_cs.proofs.Agreeing.{agrees}
 use Rattle.cs_solve_cs.proofs.Least.{member_below, reaches_least}
 use Rattle.cs_solve_cs.proofs.Reaching.{below-within}

@@ -17,7 +17,7 @@ loop-row-preserved-then-i-b c =
 
 pub loop-row-preserved : goal.loop-row-preserved
 unfolding lower_at
-loop-row-preserved c = 
+loop-row-preserved c =
     let m = Zip-more c.loop-row.row-iterator c.next.new.self _ _ c.in-Some.is c.next.ensures.steps in
     let e = rw (m.0, m.1, over_first) at c.loop-row.invariant in
     grind (arith, common_steps, nat_tests, e)
