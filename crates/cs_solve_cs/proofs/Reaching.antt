@@ -142,8 +142,8 @@ module _ {n : ℕ} {p i : List ℕ} {v : List Float} {rows w : List ℕ} {count 
     pub seen_not : eq d none ≡ false → Seen least
     seen_not u = names-not n (lacking (matrix n n p i v)) (reached_below a rows m) m least (lacks-is u) r.lacks
 
-  pub reaching_on : {s e : ℕ} {x : Option ℕ} {w' : List ℕ} → (get_or w m 0 ≡ 0 → ⊥) → Handed p i v m s e → Seen x → w' ≡ mark_all (m + 1) (part s e i) w →
-      Reaching n p i v rows w' (count + 1) x (m + 1)
+  pub reaching_on : {s e : ℕ} {x : Option ℕ} {w' : List ℕ} → (get_or w m 0 ≡ 0 → ⊥) → Handed p i v m s e → Seen x →
+      w' ≡ mark_all (m + 1) (part s e i) w → Reaching n p i v rows w' (count + 1) x (m + 1)
   reaching_on {s} {e} {x} {w'} t b f q = record {
     valid = r.valid;
     within = omega arith;
@@ -172,8 +172,8 @@ module _ {n : ℕ} {p i : List ℕ} {v : List Float} {rows w : List ℕ} {count 
     each = λ k l. rw e (r.each k l);
   }
 
-pub reaching_end : {n : ℕ} {p i : List ℕ} {v : List Float} {rows w : List ℕ} {count : ℕ} {least : Option ℕ} {m : ℕ} → Reaching n p i v rows w count least m → n ≤ m
-    → (marks n w ≡ reached (pattern n n p i) rows) × (count ≡ length (reached (pattern n n p i) rows)) ×
+pub reaching_end : {n : ℕ} {p i : List ℕ} {v : List Float} {rows w : List ℕ} {count : ℕ} {least : Option ℕ} {m : ℕ} →
+    Reaching n p i v rows w count least m → n ≤ m → (marks n w ≡ reached (pattern n n p i) rows) × (count ≡ length (reached (pattern n n p i) rows)) ×
     NamesIn n (lacking (matrix n n p i v)) (reached (pattern n n p i) rows) least
 unfolding reached marks
 reaching_end {n} {p} {i} {v} {rows} {w} {count} {least} {m} r h =

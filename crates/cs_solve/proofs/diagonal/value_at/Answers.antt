@@ -21,4 +21,6 @@ loop-row-preserved c =
     grind (arith, nat_tests, e)
 
 pub returns : goal.returns
-returns c = sym (c.loop-row.invariant ∙ value_at_ended _ _ _ (either_empty_from_Zip c.loop-row.row-iterator c.next.new.self _ c.in-None.is c.next.ensures.steps))
+returns c =
+    let h = either_empty_from_Zip c.loop-row.row-iterator c.next.new.self _ c.in-None.is c.next.ensures.steps in
+    sym (c.loop-row.invariant ∙ value_at_ended _ _ _ h)

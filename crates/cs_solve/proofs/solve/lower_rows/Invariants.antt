@@ -1,10 +1,7 @@
--- `lower_rows`: what is left of the rows and values gives, from the values of now, what all of them give. Assumes nothing.
-use Rattle.std.proofs.Common.{◌≡◌}
-use Rattle.std.specs.Iterator.Adapters.{zip_first, zip_second}
-use Rattle.std.specs.Slice.Iter.{iter_rest}
-use Rattle.lists.specs.Folds.{over}
+-- `lower_rows`: two slices side by side, of cs_solve/proofs/Sides.antt. Assumes nothing.
 use Rattle.cs_solve.specs.Solve.{lower_at}
+use Rattle.cs_solve.proofs.Sides.{Left}
 use Rattle.cs_solve.proofs.solve.lower_rows.Given as goal
 
 abbrev pub invariant-loop-row : goal.invariant-loop-row
-invariant-loop-row l = over (lower_at l.j l.x) l.rows l.vals l.initial.b ≡ over (lower_at l.j l.x) (iter_rest (zip_first l.row-iterator)) (iter_rest (zip_second l.row-iterator)) l.b
+invariant-loop-row l = Left (lower_at l.j l.x) l.rows l.vals l.initial.b l.row-iterator l.b

@@ -3,7 +3,8 @@ use native.Mathlib.Omega.{arith}
 use Rattle.cs_solve_cs.proofs.Reaching.{reaching_start, reaching_on, reaching_off, seen_before, seen_new, seen_not, reaching_end, count_small}
 use Rattle.cs_solve.proofs.Columns.{handed, j_small}
 use Rattle.cs_solve_cs.proofs.reach.reach.Goals as goal
-use Rattle.cs_solve_cs.proofs.reach.reach.Goals.{then-w-j-ne0, then-is_none+then-value_at, else-is_none, else-is_none-via-then-is_none+else-value_at, else-is_none-via-else-is_none, else-w-j-ne0}
+use Rattle.cs_solve_cs.proofs.reach.reach.Goals.{then-w-j-ne0, else-w-j-ne0, then-is_none+then-value_at, else-is_none}
+use Rattle.cs_solve_cs.proofs.reach.reach.Goals.{else-is_none-via-then-is_none+else-value_at, else-is_none-via-else-is_none}
 
 pub loop-j-init : goal.loop-j-init
 loop-j-init c = reaching_start c.requires.0 c.requires.1 c.mark.ensures

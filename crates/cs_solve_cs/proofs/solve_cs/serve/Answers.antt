@@ -11,4 +11,5 @@ returns-in-Some c = at_10 _ _ _ _ _ _ _ c.requires.valid.pattern.cols c.reach-fo
 
 pub returns : goal.returns
 returns c = at-end _ _ _ _ _ _ _ c.requires.valid.pattern.cols c.reach-found.ensures.1 c.if-xi-found.false c.if-xv-found.false _
-    c.reach-found.ensures.0 c.reach-found.result.lacking c.reach-found.ensures.2 c.in_default.is c.requires.zeros c.put.ensures c.forward.ensures.0 c.forward.ensures.1
+    c.reach-found.ensures.0 c.reach-found.result.lacking c.reach-found.ensures.2 c.in_default.is
+    c.requires.zeros c.put.ensures c.forward.ensures.0 c.forward.ensures.1
