@@ -9,20 +9,18 @@ ghost use Rattle.cs_conversion.specs.InOrder.{Coded, Ordered, as_given};
 use crate::pointers::pointers;
 use lists::sides::{copy, copy_values};
 
-// True only where the triplets come in order. Column and row are compared as one number; there is no early exit, so that
-// several are compared at a time.
+// True only where the triplets come in order. Column and row are compared as one number; there is no early exit and `bad` is as wide
+// as what is compared, so that several are compared at a time.
 pub fn in_order(rows: &[u32], cols: &[u32]) -> bool
     requires { Coded rows.now cols.now }
     ensures { result ≡ true → Ordered rows.now cols.now }
 {
     let mut bad: u32 = 0;
-    let mut k = 1;
-    while k < rows.len() {
+    for k in 1..rows.len() {
         let last = cols[k - 1] * 65536 + rows[k - 1];
         if cols[k] * 65536 + rows[k] <= last {
             bad = 1;
         }
-        k += 1;
     }
     bad == 0
 }

@@ -15,11 +15,8 @@ fn mark_ends(cols: &[u32], p: &mut [u32])
     requires { Placed (length p.old) cols.now × Zeros p.old }
     ensures { Ends (length cols.now) cols.now p.new }
 {
-    let mut k = 0;
-    while k < cols.len() {
-        let c = wide(cols[k]) + 1;
-        k += 1;
-        p[c] = k as u32;
+    for (k, &col) in cols.iter().enumerate() {
+        p[wide(col) + 1] = (k + 1) as u32;
     }
 }
 
@@ -27,15 +24,10 @@ fn mark_ends(cols: &[u32], p: &mut [u32])
 fn raise(p: &mut [u32])
     ensures { Raised p.old p.new }
 {
-    let mut high: u32 = 0;
-    let mut k = 0;
-    while k < p.len() {
-        let x = p[k];
-        if high < x {
-            high = x;
-        }
-        p[k] = high;
-        k += 1;
+    let mut high = 0;
+    for end in p.iter_mut() {
+        high = high.max(*end);
+        *end = high;
     }
 }
 

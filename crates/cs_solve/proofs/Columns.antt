@@ -1,15 +1,17 @@
 -- A column of a valid matrix, handed on as the part between its two pointers. Assumes nothing.
 use mathlib.Core.Path.{◌≡◌, sym, ◌∙◌}
+use mathlib.Core.Bool.{Bool}
 use mathlib.Core.List.{List}
 use Prim.Native.Nat.{ℕ, ◌+◌, ◌≤◌, ◌<◌}
 use native.Mathlib.Omega.{arith}
-use lib.Ieee.{Float}
+use lib.Ieee.{Float, eq}
 use lib.ListN.{length, get_or}
+use Rattle.lists.specs.Calls.{none}
 use Rattle.lists.specs.Parts.{part}
 use Rattle.lists.proofs.Parts.{length_part, part-below as below-part}
-use Rattle.cs_matrix.specs.Matrix.{matrix, Valid, column, value_at}
+use Rattle.cs_matrix.specs.Matrix.{Matrix, matrix, Valid, column, value_at}
 use Rattle.cs_matrix.proofs.Pointers.{between, column-is}
-use Rattle.cs_solve.specs.Diagonal.{diagonal}
+use Rattle.cs_solve.specs.Diagonal.{diagonal, lacking}
 
 -- a valid square matrix, by the dimension that it has
 pub squared : {m n : ℕ} {p i : List ℕ} {v : List Float} → Valid (matrix m n p i v) → m ≡ n → Valid (matrix n n p i v)
@@ -44,3 +46,8 @@ pub diagonal-is : (m n : ℕ) {p i : List ℕ} {v : List Float} {j s e : ℕ} {d
     → d ≡ diagonal (matrix m n p i v) j
 unfolding diagonal
 diagonal-is m n b q = q ∙ (rw (b.rows, b.vals))
+
+-- the test of a diagonal
+pub lacking-is : (a : Matrix) (j : ℕ) {d : Float} → d ≡ diagonal a j → {t : Bool} → eq d none ≡ t → lacking a j ≡ t
+unfolding lacking
+lacking-is a j e h = rw (← e) h

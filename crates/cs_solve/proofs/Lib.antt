@@ -1,5 +1,5 @@
 pub mod Columns
-pub mod Diagonals
+pub mod Sides
 pub mod Steps
 pub mod Turns
 pub mod Ways

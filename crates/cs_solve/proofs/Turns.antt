@@ -9,7 +9,7 @@ use lib.ListN.{length}
 use Rattle.lists.specs.Folds.{turns}
 use Rattle.lists.specs.Order.{rises}
 use Rattle.lists.specs.Parts.{part}
-use Rattle.lists.proofs.Folds.{turns-none, turns_more, turns-end, Falls, falls-start, falls-turn, falls-end}
+use Rattle.lists.proofs.Folds.{turns-none, turns_more, turns-end, Falls, falls-turn, falls-end}
 use Rattle.cs_matrix.specs.Matrix.{matrix, Valid, value_at}
 use Rattle.cs_solve.specs.Solve.{forward_at, forward_column, forward}
 use Rattle.cs_solve.specs.TrSolve.{transposed_at, transposed_column, transposed, Column}
@@ -70,11 +70,6 @@ pub record Transposing (n : ℕ) (p i : List ℕ) (v b₀ b : List Float) (k : �
   pub long : length b ≡ length b₀
   pub whole : length b₀ ≡ n
   pub rest : Falls (transposed_column (matrix n n p i v)) n b₀ b k
-
-pub transposing_start : {n : ℕ} {p i : List ℕ} {v : List Float} → Valid (matrix n n p i v) → {b : List Float} → length b ≡ n →
-    Transposing n p i v b b n
-transposing_start {n} {p} {i} {v} a {b} l =
-    record { valid = a; long = refl; whole = l; rest = falls-start (transposed_column (matrix n n p i v)) n b }
 
 module _ {n : ℕ} {p i : List ℕ} {v b₀ b : List Float} {k : ℕ} (w : Transposing n p i v b₀ b k) (h : 0 < k) where
   pub k_in_n : k - 1 < n

@@ -2,14 +2,16 @@
 use mathlib.Core.Path.{◌≡◌, refl, sym, ◌∙◌}
 use mathlib.Core.Bool.{Bool, true, false, not, ◌||◌}
 use mathlib.Core.List.{List, [], ◌∷◌}
-use Prim.Native.Nat.{ℕ, ◌≤◌, ◌<◌}
+use mathlib.Core.Logic.{◌⊎◌}
+use Prim.Native.Nat.{ℕ, ◌<◌}
 use native.Mathlib.Omega.{arith}
 use lib.Dec.{eqb}
 use lib.Ieee.{Float}
 use lib.ListN.{length}
 use borrow.Author.Tests.{eq-eqb, ne_eqb, eqb-true}
+use Rattle.std.proofs.lemmas.Bool.Decides.{nat_tests}
 use Rattle.lists.specs.Calls.{lowest, both, disagree, lower, outputs}
-use Rattle.lists.specs.Choices.{some, Found}
+use Rattle.lists.specs.Choices.{some}
 use Rattle.lists.proofs.Bools.{or-false, not_holds, passed_over}
 use Rattle.lists.proofs.Calls.{Early, below_7, first, then, lowest-both, lower_alone, lower-none}
 use Rattle.cs_matrix.specs.Matrix.{Matrix, matrix, judged_pattern, judged, Valid}
@@ -31,11 +33,9 @@ module _ (a : Matrix) (m : ℕ) {r : ℕ} (e : r ≡ lowest (judged a)) where
   unfolding judged_solve
   with_2 h = rw (e, h) (judged-is a true)
 
-  pub judge_square : (a.pattern.nrows ≡ a.pattern.ncols → ⊥) → {s : ℕ} → s ≡ lower r 2 → s ≡ lowest (judged_solve a m)
-  judge_square h f = f ∙ with_2 (rw (ne_eqb a.pattern.nrows a.pattern.ncols h))
-
-  pub judge_long : a.pattern.nrows ≡ a.pattern.ncols → (m ≡ a.pattern.ncols → ⊥) → {s : ℕ} → s ≡ lower r 2 → s ≡ lowest (judged_solve a m)
-  judge_long g h f = f ∙ with_2 (rw (eq-eqb a.pattern.nrows a.pattern.ncols g, ne_eqb m a.pattern.ncols h))
+  pub judge_2 : (a.pattern.nrows ≡ a.pattern.ncols → ⊥) ⊎ ((a.pattern.nrows ≡ a.pattern.ncols) × (m ≡ a.pattern.ncols → ⊥)) →
+      {s : ℕ} → s ≡ lower r 2 → s ≡ lowest (judged_solve a m)
+  judge_2 h f = f ∙ with_2 (grind (arith, nat_tests))
 
   pub judge_rest : a.pattern.nrows ≡ a.pattern.ncols → m ≡ a.pattern.ncols → r ≡ lowest (judged_solve a m)
   unfolding judged_solve
@@ -85,11 +85,10 @@ module _ (a : Matrix) (old : List Float) (name : ℕ) (w : List Float) where
     unfolding number
     after = then (judged_solve a (length old)) _ (early_solve a (length old)) e h
 
-    pub at_10 : {q : ℕ} → Found a.pattern.ncols (lacking_columns a) name q → q < a.pattern.ncols → Answer (record { number = 10; column = q }) old
+    pub at_10 : {q : ℕ} → some (lacking_columns a) ≡ true → q ≡ name → Answer (record { number = 10; column = q }) old
     unfolding answer outputs
-    at_10 {q} f g = let t = f.found g in rw (← after, t.0) ((λ k. record { number = 10; column = t.1 k }), refl)
+    at_10 {q} f g = rw (← after, f) ((λ k. record { number = 10; column = g k }), refl)
 
-    pub at-end : {q : ℕ} {new : List Float} → Found a.pattern.ncols (lacking_columns a) name q → a.pattern.ncols ≤ q → new ≡ w →
-        Answer (record { number = 0; column = 0 }) new
+    pub at-end : {new : List Float} → some (lacking_columns a) ≡ false → new ≡ w → Answer (record { number = 0; column = 0 }) new
     unfolding answer outputs
-    at-end f g u = rw (← after, f.none g) (refl, u)
+    at-end f u = rw (← after, f) (refl, u)

@@ -1,5 +1,5 @@
 -- What refuses a dense solve, and its answer: document 01, "Refusal numbers". Assumes nothing.
-use Rattle.std.specs.Prelude.{Bool, not, cond, ◌||◌, List, [], ◌∷◌, ◌++◌, ℕ, eqb, length, Float}
+use Rattle.std.specs.Prelude.{Bool, true, false, not, cond, ◌||◌, List, [], ◌∷◌, ◌++◌, ℕ, ◌≡◌, ◌<◌, eqb, length, Float, Option, MatchOption}
 use Rattle.lists.specs.Calls.{lowest, both, disagree}
 use Rattle.lists.specs.Choices.{chosen, some}
 use Rattle.cs_matrix.specs.Matrix.{Matrix, judged, oblong}
@@ -13,6 +13,10 @@ judged_solve a m = both (judged a) (disagree (oblong a.pattern || not (eqb m a.p
 -- the columns whose diagonal is absent, +0 or -0, rising
 unfoldable pub lacking_columns : Matrix → List ℕ
 lacking_columns a = chosen a.pattern.ncols (lacking a)
+
+-- what a search below n answers, where `name` is the number that it is to give of the list l: that number, or none where l is empty
+abbrev pub Names : ℕ → List ℕ → ℕ → Option ℕ → Type 0
+Names n l name r = MatchOption r (some l ≡ false) (λ j. (some l ≡ true) × (j ≡ name) × (j < n))
 
 -- the number that a dense solve answers
 unfoldable pub number : Matrix → List Float → ℕ

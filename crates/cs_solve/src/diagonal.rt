@@ -8,12 +8,10 @@ use lists::numbers::wide;
 pub fn value_at(j: usize, rows: &[u32], vals: &[f64]) -> f64
     ensures { result ≡ value_at j rows.now vals.now }
 {
-    let mut k = 0;
-    while k < rows.len() && k < vals.len() {
-        if wide(rows[k]) == j {
-            return vals[k];
+    for (&row, &value) in rows.iter().zip(vals) {
+        if wide(row) == j {
+            return value;
         }
-        k += 1;
     }
     0.0
 }

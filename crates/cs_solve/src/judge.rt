@@ -1,9 +1,9 @@
 // What refuses a dense solve: 1 to 5, and 10.
 ghost use Rattle.std.specs.Prelude.{◌≡◌};
 ghost use Rattle.lists.specs.Calls.{lowest};
-ghost use Rattle.lists.specs.Choices.{Found, first_or, last_or};
+ghost use Rattle.lists.specs.Choices.{first_or, last_or};
 ghost use Rattle.cs_matrix.specs.Matrix.{matrix, Valid};
-ghost use Rattle.cs_solve.specs.Judge.{judged_solve, lacking_columns};
+ghost use Rattle.cs_solve.specs.Judge.{judged_solve, lacking_columns, Names};
 
 use crate::diagonal::value_at;
 use cs_matrix::check::check;
@@ -14,45 +14,38 @@ pub fn judge(nrows: usize, ncols: usize, p: &[u32], i: &[u32], v: &[f64], m: usi
     ensures { result ≡ lowest (judged_solve (matrix nrows ncols p.now i.now v.now) m) }
 {
     let refused = check(nrows, ncols, p, i, v);
-    if nrows != ncols {
-        return lower(refused, 2);
-    }
-    if m != ncols {
+    if nrows != ncols || m != ncols {
         return lower(refused, 2);
     }
     refused
 }
 
-// The lowest column whose diagonal is absent or zero, or n.
-pub fn first_lacking(n: usize, p: &[u32], i: &[u32], v: &[f64]) -> usize
+// The lowest column whose diagonal is absent or zero.
+pub fn first_lacking(n: usize, p: &[u32], i: &[u32], v: &[f64]) -> Option<usize>
     requires { Valid (matrix n n p.now i.now v.now) }
-    ensures { let l = lacking_columns (matrix n n p.now i.now v.now) in Found n l (first_or 0 l) result }
+    ensures { let l = lacking_columns (matrix n n p.now i.now v.now) in Names n l (first_or 0 l) result }
 {
-    let mut j = 0;
-    while j < n {
+    for j in 0..n {
         let a = wide(p[j]);
         let e = wide(p[j + 1]);
         if value_at(j, &i[a..e], &v[a..e]) == 0.0 {
-            return j;
+            return Some(j);
         }
-        j += 1;
     }
-    j
+    None
 }
 
-// The highest column whose diagonal is absent or zero, or n.
-pub fn last_lacking(n: usize, p: &[u32], i: &[u32], v: &[f64]) -> usize
+// The highest column whose diagonal is absent or zero.
+pub fn last_lacking(n: usize, p: &[u32], i: &[u32], v: &[f64]) -> Option<usize>
     requires { Valid (matrix n n p.now i.now v.now) }
-    ensures { let l = lacking_columns (matrix n n p.now i.now v.now) in Found n l (last_or 0 l) result }
+    ensures { let l = lacking_columns (matrix n n p.now i.now v.now) in Names n l (last_or 0 l) result }
 {
-    let mut j = n;
-    while j > 0 {
-        j -= 1;
+    for j in (0..n).rev() {
         let a = wide(p[j]);
         let e = wide(p[j + 1]);
         if value_at(j, &i[a..e], &v[a..e]) == 0.0 {
-            return j;
+            return Some(j);
         }
     }
-    n
+    None
 }

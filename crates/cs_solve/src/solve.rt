@@ -15,20 +15,18 @@ ghost use Rattle.cs_solve.specs.TrSolve.{Column};
 use crate::Solved;
 use crate::diagonal::value_at;
 use crate::judge::{first_lacking, judge};
-use lists::numbers::{smaller, wide};
+use lists::numbers::wide;
 use lists::tight::tight;
 
 // b(i) = b(i) - (x times value) for the lower rows i of column j.
 fn lower_rows(j: usize, x: f64, rows: &[u32], vals: &[f64], b: &mut [f64])
     ensures { b.new ≡ over (lower_at j x) rows.now vals.now b.old }
 {
-    let mut k = 0;
-    while k < rows.len() && k < vals.len() {
-        let i = wide(rows[k]);
+    for (&row, &value) in rows.iter().zip(vals) {
+        let i = wide(row);
         if j < i && i < b.len() {
-            b[i] = b[i] - x * vals[k];
+            b[i] = b[i] - x * value;
         }
-        k += 1;
     }
 }
 
@@ -36,11 +34,8 @@ fn lower_rows(j: usize, x: f64, rows: &[u32], vals: &[f64], b: &mut [f64])
 fn lower_run(x: f64, vals: &[f64], b: &mut [f64])
     ensures { b.new ≡ zipped (λ y v. sub binary64 y (mul binary64 x v)) b.old vals.now }
 {
-    let n = smaller(vals.len(), b.len());
-    let mut k = 0;
-    while k < n {
+    for k in 0..vals.len().min(b.len()) {
         b[k] = b[k] - x * vals[k];
-        k += 1;
     }
 }
 
@@ -51,14 +46,10 @@ fn lower_column(j: usize, x: f64, rows: &[u32], vals: &[f64], b: &mut [f64])
     ensures { b.new ≡ over (lower_at j x) rows.now vals.now b.old }
 {
     let n = rows.len();
-    if n > 8 {
-        if wide(rows[0]) == j {
-            if tight(&rows[1..n]) {
-                let first = wide(rows[1]);
-                lower_run(x, &vals[1..n], &mut b[first..first + (n - 1)]);
-                return;
-            }
-        }
+    if n > 8 && wide(rows[0]) == j && tight(&rows[1..n]) {
+        let first = wide(rows[1]);
+        lower_run(x, &vals[1..n], &mut b[first..first + (n - 1)]);
+        return;
     }
     lower_rows(j, x, rows, vals, b);
 }
@@ -92,8 +83,10 @@ fn forward(n: usize, p: &[u32], i: &[u32], v: &[f64], b: &mut [f64])
     for j in 0..n {
         let a = wide(p[j]);
         let e = wide(p[j + 1]);
-        let d = value_at(j, &i[a..e], &v[a..e]);
-        forward_column(j, d, &i[a..e], &v[a..e], b);
+        let rows = &i[a..e];
+        let vals = &v[a..e];
+        let d = value_at(j, rows, vals);
+        forward_column(j, d, rows, vals, b);
     }
 }
 
@@ -117,11 +110,10 @@ pub fn solve_lower_triangular(
             column: 0,
         };
     }
-    let lacking = first_lacking(ncols, p, i, v);
-    if lacking < ncols {
+    if let Some(column) = first_lacking(ncols, p, i, v) {
         return Solved {
             number: 10,
-            column: lacking as u32,
+            column: column as u32,
         };
     }
     forward(ncols, p, i, v, b);

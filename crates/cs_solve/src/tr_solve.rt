@@ -18,14 +18,11 @@ fn raised(j: usize, rows: &[u32], vals: &[f64], b: &[f64]) -> f64
     ensures { set b.now j result ≡ over (raise_at j) rows.now vals.now b.now }
 {
     let mut y = b[j];
-    let mut k = 0;
-    while k < rows.len() {
-        let i = wide(rows[k]);
+    for (&row, &value) in rows.iter().zip(vals) {
+        let i = wide(row);
         if j < i {
-            let value = vals[k];
             y = y - value * b[i];
         }
-        k += 1;
     }
     y
 }
@@ -44,13 +41,13 @@ fn transposed(n: usize, p: &[u32], i: &[u32], v: &[f64], b: &mut [f64])
     requires { Valid (matrix n n p.now i.now v.now) × (length b.old ≡ n) }
     ensures { b.new ≡ transposedOf (matrix n n p.now i.now v.now) b.old }
 {
-    let mut j = n;
-    while j > 0 {
-        j -= 1;
+    for j in (0..n).rev() {
         let a = wide(p[j]);
         let e = wide(p[j + 1]);
-        let d = value_at(j, &i[a..e], &v[a..e]);
-        transposed_at(j, d, &i[a..e], &v[a..e], b);
+        let rows = &i[a..e];
+        let vals = &v[a..e];
+        let d = value_at(j, rows, vals);
+        transposed_at(j, d, rows, vals, b);
     }
 }
 
@@ -74,11 +71,10 @@ pub fn tr_solve_lower_triangular(
             column: 0,
         };
     }
-    let lacking = last_lacking(ncols, p, i, v);
-    if lacking < ncols {
+    if let Some(column) = last_lacking(ncols, p, i, v) {
         return Solved {
             number: 10,
-            column: lacking as u32,
+            column: column as u32,
         };
     }
     transposed(ncols, p, i, v, b);

@@ -18,13 +18,14 @@ use Rattle.lists.specs.Order.{lists}
 use Rattle.lists.specs.Parts.{part}
 use Rattle.cs_matrix.specs.Matrix.{Pattern, pattern, matrix, Valid, column, value_at}
 use Rattle.cs_solve.specs.Diagonal.{lacking}
-use Rattle.cs_solve.proofs.Columns.{Handed, diagonal-is}
-use Rattle.cs_solve.proofs.Diagonals.{lacking-is}
+use Rattle.cs_solve.proofs.Columns.{Handed, diagonal-is, lacking-is}
 use Rattle.cs_solve_cs.specs.Reach.{stores, touched, reached_below, reached}
 use Rattle.cs_solve_cs.specs.Steps.{mark_all, marked, marks}
-use Rattle.lists.proofs.Finding.{FoundIn, found_none, found-not, found_before, found_new}
 use Rattle.lists.proofs.Chosen.{some_of-append, chosen_alike, chosen-within}
 use Rattle.cs_solve_cs.proofs.Marking.{length-mark_all, marked_all}
+use Rattle.cs_solve_cs.proofs.Naming.{NamesIn, names_none, names-not, names_before, names_new}
+use Rattle.std.proofs.Common.{Option, Some, None}
+use Rattle.std.specs.Option.{is_some}
 
 module _ (a : Pattern) (rows : List ℕ) where
   abbrev below : ℕ → List ℕ
@@ -87,30 +88,31 @@ module _ (a : Pattern) (rows : List ℕ) where
       go false e l = rw (append-nil (below m)) e
 
 -- ---- the loop
-pub record Reaching (n : ℕ) (p i : List ℕ) (v : List Float) (rows w : List ℕ) (count least m : ℕ) : Type 0 where
+pub record Reaching (n : ℕ) (p i : List ℕ) (v : List Float) (rows w : List ℕ) (count : ℕ) (least : Option ℕ) (m : ℕ) : Type 0 where
   pub valid : Valid (matrix n n p i v)
   pub within : m ≤ n
   pub long : length w ≡ n
   pub counted : count ≡ length (reached_below (pattern n n p i) rows m)
-  pub lacks : FoundIn n (lacking (matrix n n p i v)) (reached_below (pattern n n p i) rows m) least
+  pub lacks : NamesIn n (lacking (matrix n n p i v)) (reached_below (pattern n n p i) rows m) least
   pub each : (k : ℕ) → k < n → marked w k ≡ touched (pattern n n p i) rows (reached_below (pattern n n p i) rows m) k
 
 pub reaching_start : {n : ℕ} {p i : List ℕ} {v : List Float} {rows w w' : List ℕ} → Valid (matrix n n p i v) → w ≡ replicate n 0 →
-    w' ≡ mark_all 0 rows w → Reaching n p i v rows w' 0 n 0
+    w' ≡ mark_all 0 rows w → Reaching n p i v rows w' 0 None 0
 unfolding reached_below touched some_of
 reaching_start {n} {p} {i} {v} {rows} {w} {w'} a e q = record {
   valid = a;
   within = omega arith;
   long = ap length q ∙ length-mark_all 0 rows w ∙ ap length e ∙ length-replicate n 0;
   counted = refl;
-  lacks = found_none n (lacking (matrix n n p i v));
+  lacks = names_none n (lacking (matrix n n p i v));
   each = λ k h. ap (λ (t : List ℕ). marked t k) q ∙ marked_all 0 rows w k (omega (arith, ap length e, length-replicate {A = ℕ} n 0)) ∙ go k h;
 }
   where
     go : (k : ℕ) → k < n → ((leb 0 k && lists k rows) || marked w k) ≡ (lists k rows || false)
     go k h = rw (e, get_or-replicate {A = ℕ} n k 0 0 h, le-leb 0 k (omega arith))
 
-module _ {n : ℕ} {p i : List ℕ} {v : List Float} {rows w : List ℕ} {count least m : ℕ} (r : Reaching n p i v rows w count least m) (h : m < n) where
+module _ {n : ℕ} {p i : List ℕ} {v : List Float} {rows w : List ℕ} {count : ℕ} {least : Option ℕ} {m : ℕ}
+    (r : Reaching n p i v rows w count least m) (h : m < n) where
   abbrev a : Pattern
   a = pattern n n p i
 
@@ -124,26 +126,24 @@ module _ {n : ℕ} {p i : List ℕ} {v : List Float} {rows w : List ℕ} {count 
   miss t = sym (r.each m h) ∙ (rw (eq-eqb (get_or w m 0) 0 t))
 
   -- the lowest that lacks, once column m is seen
-  abbrev pub Seen : ℕ → Type 0
-  Seen x = FoundIn n (lacking (matrix n n p i v)) (reached_below a rows m ++ (m ∷ [])) x
+  abbrev pub Seen : Option ℕ → Type 0
+  Seen x = NamesIn n (lacking (matrix n n p i v)) (reached_below a rows m ++ (m ∷ [])) x
 
-  pub seen_before : least < n → Seen least
-  seen_before t = go (lacking (matrix n n p i v) m) refl
-    where
-      go : (b : Bool) → lacking (matrix n n p i v) m ≡ b → Seen least
-      go true e = found_before (lacking (matrix n n p i v)) (reached_below a rows m) r.lacks m e t
-      go false e = found-not (lacking (matrix n n p i v)) (reached_below a rows m) r.lacks m e
+  pub seen_before : is_some least ≡ true → Seen least
+  seen_before t = names_before n (lacking (matrix n n p i v)) (reached_below a rows m) m least t r.lacks
 
   module _ {s e : ℕ} {d : Float} (b : Handed p i v m s e) (q : d ≡ value_at m (part s e i) (part s e v)) where
-    pub seen_new : n ≤ least → eq d none ≡ true → Seen m
-    seen_new t u = found_new (lacking (matrix n n p i v)) (reached_below a rows m) r.lacks m
-        (lacking-is (matrix n n p i v) m (diagonal-is n n b q) u) t h
+    lacks-is : {t : Bool} → eq d none ≡ t → lacking (matrix n n p i v) m ≡ t
+    lacks-is u = lacking-is (matrix n n p i v) m (diagonal-is n n b q) u
+
+    pub seen_new : is_some least ≡ false → eq d none ≡ true → Seen (Some m)
+    seen_new t u = names_new n (lacking (matrix n n p i v)) (reached_below a rows m) m least t (lacks-is u) h r.lacks
 
     pub seen_not : eq d none ≡ false → Seen least
-    seen_not u = found-not (lacking (matrix n n p i v)) (reached_below a rows m) r.lacks m (lacking-is (matrix n n p i v) m (diagonal-is n n b q) u)
+    seen_not u = names-not n (lacking (matrix n n p i v)) (reached_below a rows m) m least (lacks-is u) r.lacks
 
-  pub reaching_on : {s e x : ℕ} {w' : List ℕ} → (get_or w m 0 ≡ 0 → ⊥) → Handed p i v m s e → Seen x → w' ≡ mark_all (m + 1) (part s e i) w →
-      Reaching n p i v rows w' (count + 1) x (m + 1)
+  pub reaching_on : {s e : ℕ} {x : Option ℕ} {w' : List ℕ} → (get_or w m 0 ≡ 0 → ⊥) → Handed p i v m s e → Seen x →
+      w' ≡ mark_all (m + 1) (part s e i) w → Reaching n p i v rows w' (count + 1) x (m + 1)
   reaching_on {s} {e} {x} {w'} t b f q = record {
     valid = r.valid;
     within = omega arith;
@@ -172,9 +172,9 @@ module _ {n : ℕ} {p i : List ℕ} {v : List Float} {rows w : List ℕ} {count 
     each = λ k l. rw e (r.each k l);
   }
 
-pub reaching_end : {n : ℕ} {p i : List ℕ} {v : List Float} {rows w : List ℕ} {count least m : ℕ} → Reaching n p i v rows w count least m → n ≤ m
-    → (marks n w ≡ reached (pattern n n p i) rows) × (count ≡ length (reached (pattern n n p i) rows)) ×
-    FoundIn n (lacking (matrix n n p i v)) (reached (pattern n n p i) rows) least
+pub reaching_end : {n : ℕ} {p i : List ℕ} {v : List Float} {rows w : List ℕ} {count : ℕ} {least : Option ℕ} {m : ℕ} →
+    Reaching n p i v rows w count least m → n ≤ m → (marks n w ≡ reached (pattern n n p i) rows) × (count ≡ length (reached (pattern n n p i) rows)) ×
+    NamesIn n (lacking (matrix n n p i v)) (reached (pattern n n p i) rows) least
 unfolding reached marks
 reaching_end {n} {p} {i} {v} {rows} {w} {count} {least} {m} r h =
     let a = pattern n n p i in

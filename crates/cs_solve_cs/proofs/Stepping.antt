@@ -6,8 +6,8 @@ use mathlib.Core.Logic.{⊎_elim}
 use Prim.Native.Nat.{ℕ, ◌+◌, ◌≤◌, ◌<◌}
 use native.Mathlib.Omega.{arith}
 use lib.Ieee.{Float, nan, binary64, sub, mul, div}
-use lib.ListN.{length, get_or, set, length-append, length-map, length-set}
-use lib.Seq.{set_out, get_or-set_other}
+use lib.ListN.{length, get_or, set, length-append, length-map}
+use lib.Seq.{get_or-set_other}
 use borrow.Author.Tests.{eq-eqb, ne_eqb}
 use Rattle.lists.specs.Calls.{onto}
 use Rattle.lists.specs.Choices.{chosen}
@@ -15,7 +15,6 @@ use Rattle.lists.specs.Folds.{along}
 use Rattle.lists.specs.Parts.{part}
 use Rattle.lists.proofs.Bools.{le-or-lt}
 use Rattle.lists.proofs.Choices.{chosen_more, chosen-same}
-use Rattle.lists.proofs.Pairs.{Paired, paired-start, paired-turn}
 use Rattle.lists.proofs.Parts.{onto-more, onto-none, length-onto}
 use Rattle.lists.proofs.Positions.{over-keeps}
 use Rattle.cs_matrix.specs.Matrix.{Matrix, matrix, value_at, Valid}
@@ -23,7 +22,6 @@ use Rattle.cs_solve.specs.Solve.{lower_at, forward_at, forward_column}
 use Rattle.cs_solve.proofs.Columns.{Handed}
 use Rattle.cs_solve.proofs.Steps.{lower-set, lower-above, length-forward_column}
 use Rattle.cs_solve.proofs.Turns.{forward-step}
-use Rattle.cs_solve_cs.specs.SolveCs.{put_at}
 use Rattle.cs_solve_cs.specs.Steps.{marked, marks, Room}
 use Rattle.lists.proofs.Chosen.{along-more, map_more, chosen_grows, chosen_member}
 
@@ -34,22 +32,6 @@ module _ (w : List ℕ) (j : ℕ) where
 
   pub not-marked : get_or w j 0 ≡ 0 → marked w j ≡ false
   not-marked t = rw (eq-eqb (get_or w j 0) 0 t)
-
--- ---- the values put at their rows
-pub record Putting (rows : List ℕ) (vals x₀ x : List Float) (k : ℕ) : Type 0 where
-  pub long : length x ≡ length x₀
-  pub rest : Paired put_at rows vals x₀ x k
-
-pub putting_start : (rows : List ℕ) (vals x : List Float) → Putting rows vals x x 0
-putting_start rows vals x = record { long = refl; rest = paired-start put_at rows vals x }
-
-module _ {rows : List ℕ} {vals x₀ x : List Float} {k : ℕ} (v : Putting rows vals x₀ x k) (g : k < length rows) (h : k < length vals) {r : ℕ}
-    (e : r ≡ get_or rows k 0) where
-  pub putting_set : Putting rows vals x₀ (set x r (get_or vals k nan)) (k + 1)
-  putting_set = record { long = length-set x r (get_or vals k nan) ∙ v.long; rest = paired-turn put_at rows vals 0 nan v.rest g h (rw e) }
-
-  pub putting_out : length x ≤ r → Putting rows vals x₀ x (k + 1)
-  putting_out l = record { long = v.long; rest = paired-turn put_at rows vals 0 nan v.rest g h (sym (set_out x r (get_or vals k nan) l) ∙ (rw e)) }
 
 -- ---- the forward steps: a column changes no value above its own
 module _ (j k : ℕ) (h : k < j) where
@@ -226,9 +208,6 @@ module _ {n : ℕ} {p i : List ℕ} {v : List Float} {w : List ℕ} {x₀ : List
             rows = g.rows;
             vals = rw f g.vals;
           }
-
-      pub value_in : j < length y
-      value_in = omega (arith, moved.ask.x_long)
 
       module _ (t : get_or w j 0 ≡ 0 → ⊥) where
         pub out_i : at < length xi

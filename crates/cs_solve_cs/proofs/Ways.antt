@@ -2,15 +2,18 @@
 use mathlib.Core.Path.{◌≡◌, refl, sym, ap, ◌∙◌}
 use mathlib.Core.Bool.{Bool, true, false, not, cond, ◌&&◌, ◌||◌}
 use mathlib.Core.List.{List, ◌∷◌}
+use mathlib.Core.Logic.{◌⊎◌}
 use Prim.Native.Nat.{ℕ, zero, suc, ◌+◌, ◌≤◌, ◌<◌}
 use native.Mathlib.Omega.{arith}
 use lib.Dec.{T, ltb, eqb}
 use lib.Ieee.{Float, nan, binary64, fits}
 use lib.ListN.{length, get_or, replicate, length-map}
-use borrow.Author.Tests.{lt-ltb, le-ltb, eq-eqb, ne_eqb, eqb-true}
+use Rattle.std.proofs.Common.{Option, Some, None}
+use Rattle.std.proofs.lemmas.Bool.Decides.{nat_tests}
+use borrow.Author.Tests.{le-ltb, eq-eqb, ne_eqb, eqb-true}
 use Rattle.lists.specs.Calls.{lowest, both, disagree, lower, onto, none, Scratch, scratch, narrow, cleared, wiped, Lent, lent, outputs, worked}
 use Rattle.lists.specs.Calls.{leaves}
-use Rattle.lists.specs.Choices.{keep, some, first_or, Found}
+use Rattle.lists.specs.Choices.{keep, some, first_or}
 use Rattle.lists.specs.Folds.{along, over}
 use Rattle.lists.specs.Parts.{part, placed}
 use Rattle.lists.proofs.Bools.{not_holds, passed_over}
@@ -22,14 +25,14 @@ use Rattle.cs_matrix.specs.Matrix.{Matrix, matrix, pattern, Vector, vector, judg
 use Rattle.cs_matrix.proofs.Refusing.{from-judged, from_vector, from-disagree}
 use Rattle.cs_matrix.proofs.Validity.{valid, valid_vector}
 use Rattle.cs_solve.specs.Diagonal.{lacking}
-use Rattle.cs_solve.specs.Judge.{answer}
+use Rattle.cs_solve.specs.Judge.{answer, Names}
 use Rattle.cs_solve.specs.Solve.{forward_column}
 use Rattle.cs_solve.specs.declared.Solved.{Solved}
 use Rattle.cs_solve.proofs.Columns.{squared}
 use Rattle.cs_solve_cs.specs.Agree.{Promised}
 use Rattle.cs_solve_cs.specs.Reach.{reached}
 use Rattle.cs_solve_cs.specs.SolveCs.{put_at, right, steps, solution, lacking_reached, judged_cs, Stored, stored, short, written, later, number}
-use Rattle.cs_solve_cs.specs.Steps.{marks, Ready, Room}
+use Rattle.cs_solve_cs.specs.Steps.{marks, Ready}
 use Rattle.cs_solve_cs.proofs.Agreeing.{agrees}
 use Rattle.cs_solve_cs.proofs.Least.{member_below, reaches_least}
 use Rattle.cs_solve_cs.proofs.Reaching.{below-within}
@@ -115,33 +118,27 @@ module _ (n : ℕ) (p i : List ℕ) (v : List Float) (bi : List ℕ) (bv : List 
     unfolding later answer outputs
     refused_7 t = rw (short-is h, t) (refl, refl)
 
-    pub at_7_i : length old.i < c → Served (record { number = 7; column = 0 }) old
-    at_7_i g = refused_7 (rw (lt-ltb (length old.i) (length l) (omega (arith, e))))
-
-    pub at_7_v : c ≤ length old.i → length old.v < c → Served (record { number = 7; column = 0 }) old
-    at_7_v f g = refused_7 (rw (le-ltb (length old.i) (length l) (omega (arith, e)), lt-ltb (length old.v) (length l) (omega (arith, e))))
+    pub at_7 : (length old.i < c) ⊎ ((c ≤ length old.i) × (length old.v < c)) → Served (record { number = 7; column = 0 }) old
+    at_7 g = refused_7 (grind (arith, nat_tests))
 
     module _ (f : c ≤ length old.i) (g : c ≤ length old.v) (w : List ℕ) (u : marks n w ≡ l) where
       roomy : short (solution a b) old ≡ false
       roomy = short-is h ∙ (rw (le-ltb (length old.i) (length l) (omega (arith, e)), le-ltb (length old.v) (length l) (omega (arith, e))))
 
-      pub room : {x : List Float} → n ≤ length w → n ≤ length x → Room n w x old.i old.v
-      room j k = record { small = h; w_long = j; x_long = k; in_i = rw u (omega (arith, e)); in_v = rw u (omega (arith, e)) }
-
-      module _ {q : ℕ} (d : Found n (keep (lacking a) l) (first_or 0 (keep (lacking a) l)) q) where
-        lacks : Found n (lacking_reached a b) (first_or 0 (lacking_reached a b)) q
+      module _ (q : Option ℕ) (d : Names n (keep (lacking a) l) (first_or 0 (keep (lacking a) l)) q) where
+        lacks : Names n (lacking_reached a b) (first_or 0 (lacking_reached a b)) q
         unfolding lacking_reached
         lacks = d
 
-        pub at_10 : q < n → Served (record { number = 10; column = q }) old
+        pub at_10 : {j : ℕ} → q ≡ Some j → Served (record { number = 10; column = j }) old
         unfolding later answer outputs
-        at_10 k = let t = lacks.found k in rw (roomy, t.0) ((λ z. record { number = 10; column = t.1 z }), refl)
+        at_10 k = let s = lacks in let t = rw k at s in rw (roomy, t.0) ((λ z. record { number = 10; column = t.1 z }), refl)
 
-        pub at-end : {x x1 : List Float} {xi : List ℕ} {xv : List Float} → n ≤ q → x ≡ replicate n none → x1 ≡ over put_at bi bv x
+        pub at-end : {x x1 : List Float} {xi : List ℕ} {xv : List Float} → q ≡ None → x ≡ replicate n none → x1 ≡ over put_at bi bv x
             → xi ≡ onto old.i (marks n w) → xv ≡ onto old.v (values_of (along (forward_column a) (marks n w) x1) (marks n w)) →
             Served (record { number = 0; column = 0 }) (stored xi xv)
         unfolding later answer outputs written solution steps right
-        at-end k z s r o = rw (roomy, lacks.none k) (refl, both_are (r ∙ (rw u)) (o ∙ (rw (s, z, u))))
+        at-end k z s r o = let c = lacks in rw (roomy, rw k at c) (refl, both_are (r ∙ (rw u)) (o ∙ (rw (s, z, u))))
           where
             both_are : {i i' : List ℕ} {v v' : List Float} → i ≡ i' → v ≡ v' → stored i v ≡ stored i' v'
             both_are r o = λ k. stored (r k) (o k)

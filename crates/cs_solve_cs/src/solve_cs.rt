@@ -50,22 +50,16 @@ fn serve(
         (result ≡ answer m (first_or 0 (lacking_reached a b))) × (new ≡ outputs m (written (solution a b) old) old) }
 {
     let found = reach(n, p, i, v, bi, w);
-    if xi.len() < found.count {
+    if xi.len() < found.count || xv.len() < found.count {
         return Solved {
             number: 7,
             column: 0,
         };
     }
-    if xv.len() < found.count {
-        return Solved {
-            number: 7,
-            column: 0,
-        };
-    }
-    if found.lacking < n {
+    if let Some(column) = found.lacking {
         return Solved {
             number: 10,
-            column: found.lacking as u32,
+            column: column as u32,
         };
     }
     put(bi, bv, x);

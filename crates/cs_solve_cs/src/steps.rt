@@ -16,13 +16,11 @@ use lists::numbers::wide;
 pub fn put(rows: &[u32], vals: &[f64], x: &mut [f64])
     ensures { x.new ≡ over put_at rows.now vals.now x.old }
 {
-    let mut k = 0;
-    while k < rows.len() && k < vals.len() {
-        let r = wide(rows[k]);
+    for (&row, &value) in rows.iter().zip(vals) {
+        let r = wide(row);
         if r < x.len() {
-            x[r] = vals[k];
+            x[r] = value;
         }
-        k += 1;
     }
 }
 
@@ -57,8 +55,10 @@ pub fn forward(
         if w[j] != 0 {
             let a = wide(p[j]);
             let e = wide(p[j + 1]);
-            let d = value_at(j, &i[a..e], &v[a..e]);
-            forward_at(j, d, &i[a..e], &v[a..e], x);
+            let rows = &i[a..e];
+            let vals = &v[a..e];
+            let d = value_at(j, rows, vals);
+            forward_at(j, d, rows, vals, x);
             at = push(j, x[j], at, xi, xv);
         }
     }

@@ -2,11 +2,8 @@
 use mathlib.Core.Path.{◌∙◌}
 use native.Mathlib.Omega.{arith}
 use Rattle.lists.proofs.Runs.{zipped-values}
-use Rattle.cs_conversion.proofs.InOrder.{placed, given-written}
+use Rattle.cs_conversion.proofs.InOrder.{given-written}
 use Rattle.cs_conversion.proofs.ordered.as_given.Goals as goal
-
-pub pointers-requires : goal.pointers-requires
-pointers-requires c = (c.requires.1.columns, placed c.requires.0, c.requires.2.p_long)
 
 pub returns : goal.returns
 returns c = given-written _ _ c.pointers.ensures

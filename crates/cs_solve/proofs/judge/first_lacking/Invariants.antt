@@ -1,5 +1,4 @@
 -- `first_lacking`: the walk that looks for the first. Assumes nothing.
-use Prim.Native.Nat.{◌-◌}
 use Rattle.lists.proofs.Choices.{Upward}
 use Rattle.cs_solve.specs.Diagonal.{lacking}
 use Rattle.cs_matrix.specs.Matrix.{matrix}
@@ -7,6 +6,3 @@ use Rattle.cs_solve.proofs.judge.first_lacking.Given as goal
 
 abbrev pub invariant-loop-j : goal.invariant-loop-j
 invariant-loop-j l = Upward l.n (lacking (matrix l.n l.n l.p l.i l.v)) l.j
-
-abbrev pub decreases-loop-j : goal.decreases-loop-j
-decreases-loop-j l = l.n - l.j

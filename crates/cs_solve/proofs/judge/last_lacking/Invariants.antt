@@ -6,6 +6,3 @@ use Rattle.cs_solve.proofs.judge.last_lacking.Given as goal
 
 abbrev pub invariant-loop-j : goal.invariant-loop-j
 invariant-loop-j l = Downward l.n (lacking (matrix l.n l.n l.p l.i l.v)) l.j
-
-abbrev pub decreases-loop-j : goal.decreases-loop-j
-decreases-loop-j l = l.j

@@ -4,6 +4,3 @@ use Rattle.cs_solve.proofs.tr_solve.transposed.Given as goal
 
 abbrev pub invariant-loop-j : goal.invariant-loop-j
 invariant-loop-j l = Transposing l.n l.p l.i l.v l.initial.b l.b l.j
-
-abbrev pub decreases-loop-j : goal.decreases-loop-j
-decreases-loop-j l = l.j

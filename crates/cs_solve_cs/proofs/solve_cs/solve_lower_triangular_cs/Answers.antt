@@ -13,20 +13,8 @@ overflow_add-need c = let h = (passed _ _ _ _ _ _ _ c.judge-refused.ensures c.if
 pub returns-then-too_narrow : goal.returns-then-too_narrow
 returns-then-too_narrow c = at_6 _ _ _ _ _ _ _ _ c.judge-refused.ensures c.if-refused-ne0.false c.too_narrow.ensures c.if-too_narrow.true
 
-pub slice_bounds-serve-count : goal.slice_bounds-serve-count
-slice_bounds-serve-count c = omega arith
-
-pub slice_bounds-serve-start : goal.slice_bounds-serve-start
-slice_bounds-serve-start c = omega arith
-
 pub slice_bounds-serve-end : goal.slice_bounds-serve-end
 slice_bounds-serve-end c = let h = w1_long _ _ c.too_narrow.ensures c.if-too_narrow.false c.clear_scratch.ensures in omega arith
-
-pub slice_bounds-serve-count-2 : goal.slice_bounds-serve-count-2
-slice_bounds-serve-count-2 c = omega arith
-
-pub slice_bounds-serve-start-2 : goal.slice_bounds-serve-start-2
-slice_bounds-serve-start-2 c = omega arith
 
 pub slice_bounds-serve-end-2 : goal.slice_bounds-serve-end-2
 slice_bounds-serve-end-2 c = let h = x_long _ _ c.too_narrow.ensures c.if-too_narrow.false c.clear_scratch.ensures in omega arith
