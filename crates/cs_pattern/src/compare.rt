@@ -111,7 +111,13 @@ pub fn compare(
 {
     prepare(a, w1, w2, w3, x)?;
     let Pattern { ncols, p, i, .. } = a;
-    let Analysis { tree, up, ui, lp, li } = given;
+    let Analysis {
+        tree,
+        up,
+        ui,
+        lp,
+        li,
+    } = given;
     let answer = decide(ncols, room, p, i, tree, up, ui, lp, li, w1, w2, w3);
     clear_scratch(ncols + 1, w1, w2, w3, x);
     answer
