@@ -2,6 +2,8 @@
 ghost use Rattle.std.specs.Prelude.{◌≡◌, ◌+◌, ◌≤◌, ◌||◌, nat_lt};
 ghost use Rattle.lists.specs.Calls.{scratch, lent, leaves};
 ghost use Rattle.lists.specs.Keeping.{Kept};
+ghost use Rattle.lists.specs.Refusals.{numbered};
+ghost use Rattle.cs_matrix.specs.Lent.{pattern_of};
 ghost use Rattle.cs_matrix.specs.Matrix.{pattern, needed, ValidPattern};
 ghost use Rattle.cs_tree.specs.Pattern.{analysis, analysed};
 ghost use Rattle.cs_pattern.specs.Analyse.{number, written};
@@ -12,8 +14,10 @@ ghost use Rattle.cs_pattern.specs.Steps.{Ready};
 use crate::count::MOST;
 use crate::fill::outline;
 use crate::upper::fill_columns;
+use cs_matrix::matrix::Pattern;
 use cs_matrix::square::prepare;
-use lists::clear::{clear, clear_scratch};
+use lists::clear::{clear_scratch, fill};
+use lists::refusal::Refusal;
 use lists::sides::copy;
 use lists::sums::cumsum;
 
@@ -26,7 +30,7 @@ fn too_short(n: usize, t: usize, tree: usize, up: usize, ui: usize, lp: usize, l
 }
 
 // Writes the analysis to outputs that have room for its t entries.
-fn fill(
+fn write(
     n: usize,
     t: usize,
     p: &[u32],
@@ -47,7 +51,7 @@ fn fill(
         (new ≡ written (analysed (columns (pattern n n p.now i.now))) old)
         × Kept 0 (n + 1) w2.old w2.new × Kept 0 (n + 1) w3.old w3.new }
 {
-    clear(n, w2);
+    fill(0, n, w2);
     let m = n + 1;
     cumsum(&mut w3[0..m], &mut lp[0..m]);
     // summed up, each place but the first has where the column of L before it ends
@@ -68,10 +72,7 @@ fn fill(
 
 // The analysis of a pattern, in tree, up, ui, lp and li.
 pub fn analyse(
-    nrows: usize,
-    ncols: usize,
-    p: &[u32],
-    i: &[u32],
+    a: Pattern<'_>,
     tree: &mut [u32],
     up: &mut [u32],
     ui: &mut [u32],
@@ -81,24 +82,24 @@ pub fn analyse(
     w2: &mut [u32],
     w3: &mut [u32],
     x: &mut [f64],
-) -> u32
-    ensures { let a = pattern nrows ncols p.now i.now in
+) -> Result<(), Refusal>
+    ensures { let a = pattern_of a.entry in
         let old = lent (analysis tree.old up.old ui.old lp.old li.old)
         (scratch w1.old w2.old w3.old x.old) in
         let new = lent (analysis tree.new up.new ui.new lp.new li.new)
         (scratch w1.new w2.new w3.new x.new) in
-        (result ≡ number a old) × (new ≡ leaves result (needed a) (written (analysed (columns a)) old.out) old) × (result ≡ 0 → Analysed a new.out) }
+        (numbered result ≡ number a old)
+        × (new ≡ leaves (numbered result) (needed a) (written (analysed (columns a)) old.out) old)
+        × (numbered result ≡ 0 → Analysed a new.out) }
 {
-    let refused = prepare(nrows, ncols, p, i, w1, w2, w3, x);
-    if refused != 0 {
-        return refused;
-    }
+    prepare(a, w1, w2, w3, x)?;
+    let Pattern { ncols, p, i, .. } = a;
     let t = outline(ncols, p, i, w1, w2, w3);
     if too_short(ncols, t, tree.len(), up.len(), ui.len(), lp.len(), li.len()) {
         clear_scratch(ncols + 1, w1, w2, w3, x);
-        return 7;
+        return Err(Refusal::NoRoom);
     }
-    fill(ncols, t, p, i, tree, up, ui, lp, li, w1, w2, w3);
+    write(ncols, t, p, i, tree, up, ui, lp, li, w1, w2, w3);
     clear_scratch(ncols + 1, w1, w2, w3, x);
-    0
+    Ok(())
 }

@@ -6,7 +6,7 @@ ghost use Rattle.cs_pattern.specs.Steps.{Outlined};
 
 use crate::count::count_rows;
 use crate::tree::elimination_tree;
-use lists::clear::clear;
+use lists::clear::fill;
 
 // The tree in w1 and, where w3 holds zeros, the number of entries of each column of L there, with w2 for the marks. The answer is how
 // many entries there are, or 4,194,305 where there are more than 4,194,304.
@@ -23,6 +23,6 @@ pub fn outline(
         Outlined cols n result w1.old w1.new w2.old w2.new w3.old w3.new }
 {
     elimination_tree(n, p, i, &mut w1[0..n], &mut w2[0..n]);
-    clear(n, w2);
+    fill(0, n, w2);
     count_rows(n, p, i, &w1[0..n], &mut w2[0..n], w3)
 }

@@ -14,7 +14,7 @@ ghost use Rattle.cs_pattern.specs.Steps.{Known};
 
 use crate::count::MOST;
 use crate::tree::elimination_tree;
-use lists::clear::clear;
+use lists::clear::fill;
 use lists::numbers::wide;
 use lists::order::starts_with;
 
@@ -147,6 +147,6 @@ pub fn read_upper(
     if !starts_with(&w1[0..n], tree) {
         return false;
     }
-    clear(n, w2);
+    fill(0, n, w2);
     read_columns(n, p, i, &w1[0..n], &mut w2[0..n], up, ui)
 }

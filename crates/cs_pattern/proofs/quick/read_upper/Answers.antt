@@ -16,10 +16,10 @@ returns-then-up-n c = untold c.requires.0 c.args.tree.now c.args.up.now c.args.u
 
 pub read_columns-requires : goal.read_columns-requires
 read_columns-requires c = read_asks c.requires.0 c.args.tree.now c.args.up.now c.args.ui.now c.args.w1.now c.args.w2.now c.elimination_tree.new.anc
-    c.requires.1 c.requires.2 c.elimination_tree.ensures c.elimination_tree.auto.anc c.clear.ensures c.if-up-n.false
+    c.requires.1 c.requires.2 c.elimination_tree.ensures c.elimination_tree.auto.anc c.fill.ensures c.if-up-n.false
 
 pub returns : goal.returns
 returns c = told c.requires.0 c.args.tree.now c.args.up.now c.args.ui.now c.args.w1.now c.args.w2.now c.elimination_tree.new.anc c.requires.1
-    c.requires.2 c.elimination_tree.ensures c.elimination_tree.auto.anc c.starts_with.ensures c.clear.ensures c.read_columns.new.mark
+    c.requires.2 c.elimination_tree.ensures c.elimination_tree.auto.anc c.starts_with.ensures c.fill.ensures c.read_columns.new.mark
     c.if-not-starts_with.false c.read_columns.auto.mark (omega (arith, c.if-wide-gt-MOST.false, c.wide.ensures.0))
     c.read_columns.ensures
