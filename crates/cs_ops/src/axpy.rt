@@ -13,11 +13,9 @@ fn assign(n: usize, alpha: f64, i: &[u32], v: &[f64], y: &mut [f64])
     requires { Fitting (vector n i.now v.now) y.old }
     ensures { y.new ≡ assigned alpha (vector n i.now v.now) y.old }
 {
-    let mut k = 0;
-    while k < i.len() {
-        let at = wide(i[k]);
-        y[at] = alpha * v[k];
-        k += 1;
+    for (&row, &val) in i.iter().zip(v) {
+        let at = wide(row);
+        y[at] = alpha * val;
     }
 }
 
@@ -27,11 +25,9 @@ fn accumulate(n: usize, alpha: f64, i: &[u32], v: &[f64], beta: f64, y: &mut [f6
     ensures { y.new ≡ added alpha (vector n i.now v.now) beta y.old }
 {
     times(beta, y);
-    let mut k = 0;
-    while k < i.len() {
-        let at = wide(i[k]);
-        y[at] = y[at] + alpha * v[k];
-        k += 1;
+    for (&row, &val) in i.iter().zip(v) {
+        let at = wide(row);
+        y[at] += alpha * val;
     }
 }
 

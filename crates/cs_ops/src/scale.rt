@@ -10,10 +10,8 @@ use cs_matrix::check::check;
 pub fn times(s: f64, l: &mut [f64])
     ensures { l.new ≡ scaled s l.old }
 {
-    let mut k = 0;
-    while k < l.len() {
-        l[k] = l[k] * s;
-        k += 1;
+    for x in l.iter_mut() {
+        *x *= s;
     }
 }
 

@@ -25,10 +25,9 @@ fn add_column(
     ensures { (x.new ≡ over (plus_at beta) rows.now vals.now x.old) × Met n stamp mark.new met.new x.new result }
 {
     let mut many = count;
-    for k in 0..rows.len() {
-        let row = rows[k];
+    for (&row, &val) in rows.iter().zip(vals) {
         let r = wide(row);
-        x[r] = x[r] + vals[k] * beta;
+        x[r] += val * beta;
         if mark[r] != stamp {
             mark[r] = stamp;
             met[many] = row;
@@ -57,21 +56,11 @@ pub fn accumulate(
         Met nrows stamp mark.new met.new x.new result }
 {
     let mut many = 0;
-    for k in 0..rows.len() {
-        let c = wide(rows[k]);
+    for (&col, &val) in rows.iter().zip(vals) {
+        let c = wide(col);
         let a = wide(p[c]);
         let e = wide(p[c + 1]);
-        many = add_column(
-            nrows,
-            stamp,
-            vals[k],
-            &i[a..e],
-            &v[a..e],
-            mark,
-            met,
-            x,
-            many,
-        );
+        many = add_column(nrows, stamp, val, &i[a..e], &v[a..e], mark, met, x, many);
     }
     many
 }

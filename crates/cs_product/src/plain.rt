@@ -16,9 +16,9 @@ fn add_rows(beta: f64, rows: &[u32], vals: &[f64], x: &mut [f64])
     requires { Entries (length x.old) rows.now vals.now }
     ensures { x.new ≡ over (plus_at beta) rows.now vals.now x.old }
 {
-    for k in 0..rows.len() {
-        let r = wide(rows[k]);
-        x[r] = x[r] + vals[k] * beta;
+    for (&row, &val) in rows.iter().zip(vals) {
+        let r = wide(row);
+        x[r] += val * beta;
     }
 }
 
@@ -51,10 +51,10 @@ pub fn accumulate_plain(
     requires { Plain (matrix nrows ncols p.now i.now v.now) rows.now vals.now x.old }
     ensures { x.new ≡ over (add_column (matrix nrows ncols p.now i.now v.now)) rows.now vals.now x.old }
 {
-    for k in 0..rows.len() {
-        let c = wide(rows[k]);
+    for (&col, &val) in rows.iter().zip(vals) {
+        let c = wide(col);
         let a = wide(p[c]);
         let e = wide(p[c + 1]);
-        add_plain(vals[k], &i[a..e], &v[a..e], x);
+        add_plain(val, &i[a..e], &v[a..e], x);
     }
 }

@@ -20,8 +20,8 @@ pub fn span_of(nrows: usize, ncols: usize, p: &[u32], i: &[u32], cols: &[u32]) -
     let mut lo = nrows;
     let mut hi = 0;
     let mut work = 0;
-    for k in 0..cols.len() {
-        let c = wide(cols[k]);
+    for &col in cols {
+        let c = wide(col);
         let a = wide(p[c]);
         let e = wide(p[c + 1]);
         if a < e {

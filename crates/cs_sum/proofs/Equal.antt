@@ -31,14 +31,6 @@ use Rattle.cs_sum.proofs.Merged.{given, of_both}
 
 -- ---- `same_rows`
 module _ (l m : List ℕ) where
-  pub longer : (length l ≡ length m → ⊥) → false ≡ same_rows l m
-  unfolding same_rows
-  longer h = rw (ne_eqb (length l) (length m) h)
-
-  pub as_long : length l ≡ length m → starts_with l m ≡ same_rows l m
-  unfolding same_rows
-  as_long h = rw (eq-eqb (length l) (length m) h)
-
   pub same_are : same_rows l m ≡ true → l ≡ m
   unfolding same_rows
   same_are h =

@@ -28,14 +28,6 @@ use Rattle.cs_sum.specs.Steps.{Risen, Column, Ready}
 use Rattle.cs_sum.specs.Sum.{summed_at, row_of, value_of, sum, differ, number}
 
 -- ---- `differ`
-pub differ-rows : (n m k l : ℕ) → (n ≡ k → ⊥) → true ≡ differ n m k l
-unfolding differ
-differ-rows n m k l h = rw (ne_eqb n k h)
-
-pub differ_cols : (n m k l : ℕ) → n ≡ k → not (eqb m l) ≡ differ n m k l
-unfolding differ
-differ_cols n m k l h = rw (eq-eqb n k h)
-
 same_dimensions : (n m k l : ℕ) → differ n m k l ≡ false → (n ≡ k) × (m ≡ l)
 unfolding differ
 same_dimensions n m k l h = let x = or-false (not (eqb n k)) _ h in (eqb-true n k (not_holds _ x.0), eqb-true m l (not_holds _ x.1))

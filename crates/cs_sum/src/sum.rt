@@ -13,13 +13,11 @@ use cs_columns::judge::{check_two, no_room};
 use lists::numbers::wide;
 
 // The dimensions of the two differ.
+#[tactic(auto, unfolding(crate::specs::Sum::differ))]
 fn differ(nrows: usize, ncols: usize, bnrows: usize, bncols: usize) -> bool
     ensures { result ≡ differOf nrows ncols bnrows bncols }
 {
-    if nrows != bnrows {
-        return true;
-    }
-    ncols != bncols
+    nrows != bnrows || ncols != bncols
 }
 
 // The number of different places.

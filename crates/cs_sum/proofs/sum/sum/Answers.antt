@@ -4,12 +4,6 @@ use Rattle.cs_matrix.specs.Matrix.{stored}
 use Rattle.cs_sum.proofs.Summed.{at_check, alike, at_7, ready, at-end}
 use Rattle.cs_sum.proofs.sum.sum.Goals as goal
 
-pub differ-apart-requires : goal.differ-apart-requires
-differ-apart-requires c = tt
-
-pub check_two-refused-requires : goal.check_two-refused-requires
-check_two-refused-requires c = tt
-
 pub returns-then-refused-ne0 : goal.returns-then-refused-ne0
 returns-then-refused-ne0 c = at_check _ _ _ _ _ _ _ _ _ _ _ c.differ-apart.ensures c.check_two-refused.ensures c.if-refused-ne0.true
 
