@@ -1,6 +1,4 @@
 -- `root::positive::scaled_root` meets its contract: `Ready` of `Scale.antt` has what each step asks. Assumes nothing.
-use mathlib.Core.Path.{ap, ◌∙◌}
-use Prim.Native.Nat.{ℕ, ◌+◌, ◌*◌, ◌/◌}
 use native.Mathlib.Omega.{arith}
 use Rattle.root.proofs.positive.Scale.{ready}
 use Rattle.root.proofs.positive.scaled_root.Goals as goal
