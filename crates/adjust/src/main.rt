@@ -11,6 +11,5 @@ fn main(rt: HostRuntime) -> io::Result<()> {
     let mut out: [u8; 3584] = [0; 3584];
     let (n, _) = fill(&mut rt.stdin(), &mut input);
     let r = job::job::job(&input[..n], &mut out);
-    let end = r.written;
-    rt.write_all(&out[..end])
+    rt.write_all(&out[..r.written])
 }

@@ -19,10 +19,15 @@ use Rattle.cs_solve.specs.Solve.{forward_column, forward}
 use Rattle.cs_solve.specs.TrSolve.{transposed_column, transposed}
 use Rattle.cs_solve.proofs.Steps.{length-forward_column, length-transposed_at}
 use Rattle.job_file.specs.declared.read.Answer.{Answer}
+use Rattle.job_file.specs.declared.read.Engine.{Engine}
+use Rattle.job_file.specs.declared.read.Stage.{Stage}
+use Rattle.job_file.specs.declared.read.Stage.TheVariants.{Start, Sized, Ended}
 use Rattle.job_file.specs.Faults.{Job}
 use Rattle.job_file.specs.Reading.{Outcome, read_file}
-use Rattle.job_file.specs.Arrays.{Arrays, laid, answered as read_as, Within}
+use Rattle.job_file.specs.Arrays.{Arrays, laid, Said, said, answered as read_as, Within}
+use Rattle.job_file.specs.Told.{byte, place_of, engine_of}
 use Rattle.job_file.proofs.Longest.{past_longest}
+use Rattle.job_file.proofs.Walking.{sound_ends}
 use Rattle.job_answer.specs.declared.Wrote.{Wrote}
 use Rattle.job_answer.specs.Lines.{Line, text, lines}
 use Rattle.job_answer.specs.Answer.{answer, leaves}
@@ -100,12 +105,18 @@ answers s old r new ls e v c = (
   λ m h. ap (λ (o : Outcome). written (result_of o)) (past_longest s m h),
 )
 
+-- a file that has come to its end names an engine
+at_the_end : (g : Stage) → place_of g ≡ 2 → ((e : Engine) → g ≡ Ended e → ⊥) → ⊥
+at_the_end Start e n = omega arith
+at_the_end Sized e n = omega arith
+at_the_end (Ended engine) e n = n engine refl
+
 -- a list that was written to the front
 front_fits : {A : Type 0} (d g l : List A) (k : ℕ) → l ≡ onto d g → k ≡ length g → (k ≤ length l) × (take k l ≡ g)
 unfolding onto
 front_fits d g l k e f = (omega (arith, f, ap length e ∙ length-append g (drop (length g) d)), ap (take k) e ∙ take-onto k d g (sym f))
 
-module _ (s : List ℕ) (was : Arrays) (a : Answer) (now : Arrays) (c : (a ≡ read_as (read_file s)) × (now ≡ laid (read_file s).job was) ×
+module _ (s : List ℕ) (was : Arrays) (a : Answer) (now : Arrays) (c : (said a ≡ read_as (read_file s)) × (now ≡ laid (read_file s).job was) ×
     Within (read_file s).job) where
   abbrev o : Outcome
   o = read_file s
@@ -116,7 +127,7 @@ module _ (s : List ℕ) (was : Arrays) (a : Answer) (now : Arrays) (c : (a ≡ r
   -- ---- what was read
   module _ (w : ℕ) (e : w ≡ a.head.entries) where
     count_is : w ≡ length j.entries.rows
-    count_is = e ∙ ap (λ (x : Answer). x.head.entries) c.0
+    count_is = e ∙ ap (λ (x : Said). x.head.entries) c.0
 
     pub rows_are : (w ≤ length now.rows) × (take w now.rows ≡ (read_file s).job.entries.rows)
     unfolding laid
@@ -132,14 +143,14 @@ module _ (s : List ℕ) (was : Arrays) (a : Answer) (now : Arrays) (c : (a ≡ r
 
   module _ (n : ℕ) (e : n ≡ a.head.n) where
     n_is : n ≡ j.n
-    n_is = e ∙ ap (λ (x : Answer). x.head.n) c.0
+    n_is = e ∙ ap (λ (x : Said). x.head.n) c.0
 
     pub right_is : (n ≤ length now.right) × (take n now.right ≡ (read_file s).job.right)
     unfolding laid
     right_is = front_fits was.right j.right now.right n (ap (λ (x : Arrays). x.right) c.1) (n_is ∙ sym c.2.right)
 
   number_is : a.number ≡ o.number
-  number_is = ap (λ (x : Answer). x.number) c.0
+  number_is = ap (λ (x : Said). x.number) c.0
 
   -- ---- refused
   refusal-text : (x : List Float) → (a.number ≡ 0 → ⊥) → text (lines a.number 0 x) ≡ output s
@@ -153,18 +164,24 @@ module _ (s : List ℕ) (was : Arrays) (a : Answer) (now : Arrays) (c : (a ≡ r
       → (r ≡ answer (text (lines a.number 0 x)) old) × (new ≡ leaves (text (lines a.number 0 x)) old) → Answers s old r new
   job_refused x old r new n d = answers s old r new (lines a.number 0 x) (refusal-text x n) c.2 d
 
-  -- ---- worked
-  module _ (n w : ℕ) (en : n ≡ a.head.n) (ew : w ≡ a.head.entries) (z : a.number ≡ 0) {r : Solved} {b1 : List Float}
-      (d : Owed (worked a.head.engine (triplets n n (take w now.rows) (take w now.columns) (take w now.values)) (take n now.right)) r b1)
+  -- ---- worked: a sound file names an engine
+  pub names_one : a.number ≡ 0 → ((e : Engine) → a.head.stage ≡ Ended e → ⊥) → ⊥
+  names_one z n = at_the_end a.head.stage (ap (λ (x : Said). x.head.stage) c.0 ∙ sound_ends s (sym number_is ∙ z)) n
+
+  module _ (engine : Engine) (ee : a.head.stage ≡ Ended engine) (n w : ℕ) (en : n ≡ a.head.n) (ew : w ≡ a.head.entries) (z : a.number ≡ 0) {r : Solved} {b1 : List Float}
+      (d : Owed (worked (byte engine) (triplets n n (take w now.rows) (take w now.columns) (take w now.values)) (take n now.right)) r b1)
       (l : length b1 ≡ length (take n now.right)) where
     triplets_are : triplets n n (take w now.rows) (take w now.columns) (take w now.values) ≡ triplets_of j
     unfolding triplets_of
     triplets_are = λ k. triplets (n_is n en k) (n_is n en k) ((rows_are w ew).1 k) ((columns_are w ew).1 k) ((values_are w ew).1 k)
 
-    worked-is : worked a.head.engine (triplets n n (take w now.rows) (take w now.columns) (take w now.values)) (take n now.right) ≡ result_of o
+    engine-is : byte engine ≡ j.engine
+    engine-is = sym (ap engine_of ee) ∙ ap (λ (x : Said). x.head.engine) c.0
+
+    worked-is : worked (byte engine) (triplets n n (take w now.rows) (take w now.columns) (take w now.values)) (take n now.right) ≡ result_of o
     unfolding result_of
     worked-is =
-        (λ k. worked (ap (λ (x : Answer). x.head.engine) c.0 k) (triplets_are k) ((right_is n en).1 k))
+        (λ k. worked (engine-is k) (triplets_are k) ((right_is n en).1 k))
         ∙ sym (after_go o.number 0 (worked j.engine (triplets_of j) j.right) (sym number_is ∙ z))
 
     b1_long : length b1 ≡ n

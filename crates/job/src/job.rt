@@ -6,7 +6,7 @@ ghost use Rattle.job.specs.Output.{output};
 use crate::work::work;
 use job_answer::Wrote;
 use job_answer::write::write_answer;
-use job_file::read::read_job;
+use job_file::read::{Stage, read_job};
 use lists::numbers::wide;
 
 // The answer of the job file s, in the front of out. It has at most 3,584 bytes, and no byte of s behind the first 40,479, which are
@@ -21,15 +21,18 @@ pub fn job(s: &[u8], out: &mut [u8]) -> Wrote
     let mut values: [f64; 2048] = [0.0; 2048];
     let mut right: [f64; 256] = [0.0; 256];
     let a = read_job(s, &mut rows, &mut columns, &mut values, &mut right);
-    let number = a.number;
-    if number != 0 {
-        return write_answer(number, 0, &right[..0], out);
+    if a.number != 0 {
+        return write_answer(a.number, 0, &[], out);
     }
     let h = a.head;
+    // a sound file ends with GO
+    let Stage::Ended(engine) = h.stage else {
+        unreachable!();
+    };
     let n = wide(h.n);
     let count = wide(h.entries);
     let r = work(
-        h.engine,
+        engine,
         n,
         &rows[..count],
         &columns[..count],

@@ -1,16 +1,18 @@
 // A job that is assembled and analysed: factored, then solved.
 ghost use Rattle.std.specs.Prelude.{◌≡◌, length};
 ghost use Rattle.cs_tree.specs.Pattern.{analysis};
+ghost use Rattle.job_file.specs.Told.{byte};
 ghost use Rattle.job.specs.Run.{answered, run as run_of};
 ghost use Rattle.job.specs.Steps.{held_matrix, Prepared};
 
 use crate::factor::factor;
 use crate::solve::solve;
 use cs_solve::Solved;
+use job_file::read::Engine;
 use lists::numbers::wide;
 
 fn factor_and_solve(
-    engine: u32,
+    engine: Engine,
     n: usize,
     p: &[u32],
     i: &[u32],
@@ -24,7 +26,7 @@ fn factor_and_solve(
 ) -> Solved
     requires { Prepared n p.now i.now v.now (analysis tree.now up.now ui.now lp.now li.now)
         × (length p.now ≡ 257) × (length li.now ≡ 2048) }
-    ensures { let s = run_of engine (held_matrix n p.now i.now v.now) b.old in
+    ensures { let s = run_of (byte engine) (held_matrix n p.now i.now v.now) b.old in
         (result ≡ answered s) × (result.number ≡ 0 → b.new ≡ s.x) }
 {
     let mut lx: [f64; 2048] = [0.0; 2048];
@@ -55,7 +57,7 @@ fn factor_and_solve(
 
 // The right side b becomes the solution.
 pub fn run(
-    engine: u32,
+    engine: Engine,
     n: usize,
     p: &[u32; 257],
     i: &[u32; 2048],
@@ -68,7 +70,7 @@ pub fn run(
     b: &mut [f64],
 ) -> Solved
     requires { Prepared n p.now i.now v.now (analysis tree.now up.now ui.now lp.now li.now) }
-    ensures { let s = run_of engine (held_matrix n p.now i.now v.now) b.old in
+    ensures { let s = run_of (byte engine) (held_matrix n p.now i.now v.now) b.old in
         (result ≡ answered s) × (result.number ≡ 0 → b.new ≡ s.x) }
 {
     factor_and_solve(engine, n, p, i, v, tree, up, ui, lp, li, b)

@@ -1,22 +1,24 @@
 // A job's entries and right side to its solution.
 ghost use Rattle.std.specs.Prelude.{◌≡◌};
 ghost use Rattle.cs_conversion.specs.Assembly.{triplets};
+ghost use Rattle.job_file.specs.Told.{byte};
 ghost use Rattle.job.specs.Run.{answered, worked};
 
 use crate::run::run;
 use cs_solve::Solved;
+use job_file::read::Engine;
 use job_prepare::prepare::prepare;
 
 // Prepared, then run: the right side b becomes the solution.
 pub fn work(
-    engine: u32,
+    engine: Engine,
     n: usize,
     rows: &[u32],
     cols: &[u32],
     vals: &[f64],
     b: &mut [f64],
 ) -> Solved
-    ensures { let s = worked engine (triplets n n rows.now cols.now vals.now) b.old in
+    ensures { let s = worked (byte engine) (triplets n n rows.now cols.now vals.now) b.old in
         (result ≡ answered s) × (result.number ≡ 0 → b.new ≡ s.x) }
 {
     let mut p: [u32; 257] = [0; 257];

@@ -6,12 +6,6 @@ ghost use Rattle.job_answer.specs.Answer.{answer, leaves};
 use crate::Wrote;
 use crate::put::{put_refusal, put_rows};
 
-fn wide(x: u32) -> u64
-    ensures { result ≡ x }
-{
-    x as u64
-}
-
 // With number 0 an XV for each of x, else only NO number, column.
 pub fn write_answer(number: u32, column: u32, x: &[f64], out: &mut [u8]) -> Wrote
     ensures { let w = text (lines number column x.now) in
@@ -24,7 +18,7 @@ pub fn write_answer(number: u32, column: u32, x: &[f64], out: &mut [u8]) -> Wrot
                 written: 0,
             };
         }
-        let end = put_refusal(out, wide(number), wide(column));
+        let end = put_refusal(out, u64::from(number), u64::from(column));
         return Wrote {
             number: 0,
             written: end,

@@ -1,6 +1,8 @@
 -- The loop over the records of a file: what is left of the file, read from the job so far, is the whole file read. Assumes nothing.
 use mathlib.Core.Path.{◌≡◌, refl, sym, ap, subst, ◌∙◌}
 use mathlib.Core.List.{List, []}
+use mathlib.Core.Bool.{true}
+use mathlib.Core.Logic.{◌⊎◌, ⊎_elim}
 use Prim.Native.Nat.{ℕ, ◌+◌, ◌≤◌, ◌<◌}
 use native.Mathlib.Omega.{arith}
 use lib.ListN.{length, drop}
@@ -9,12 +11,16 @@ use borrow.Author.Tests.{eq-eqb, ne_eqb}
 use Rattle.lists.proofs.Fronts.{drop_further, onto-is}
 use Rattle.lists.proofs.Parts.{left-none}
 use Rattle.job_file.specs.declared.read.Head.{Head}
+use Rattle.job_file.specs.declared.read.Engine.{Engine}
+use Rattle.job_file.specs.declared.read.Stage.TheVariants.{Start, Sized, Ended}
 use Rattle.job_file.specs.declared.read.Answer.{Answer}
 use Rattle.job_file.specs.Records.{Record, SZ, EN, RH, GO, Wrong, size, first, records}
 use Rattle.job_file.specs.Faults.{fault, turn, malformed, oversized, outside, fallen, repeated, complete, at_end}
 use Rattle.job_file.specs.Reading.{Outcome, reads, read_file}
-use Rattle.job_file.specs.Arrays.{Arrays, arrays, laid, head_of, answered, Within}
+use Rattle.job_file.specs.Arrays.{Arrays, arrays, laid, Numbers, head_of, said, answered, Within}
+use Rattle.job_file.specs.Told.{place_of, engine_of}
 use Rattle.job_file.specs.Keeping.{held_by, Room, Fits, Behind, Kept}
+use Rattle.job_file.proofs.Judging.{malformed_is}
 use Rattle.job_file.proofs.Laying.{head}
 use Rattle.job_file.proofs.Walking.{within_file, rest-is, reads_on, reads_stop, reads_end}
 
@@ -32,12 +38,8 @@ pub record Going (s : List ℕ) (old : Arrays) (h : Head) (at : ℕ) (new : Arra
   pub rest : reads (records (drop at s)) (held_by h new) ≡ read_file s
   pub fits : Fits h new
   pub behind : Behind h old new
-  pub rows_long : length new.rows ≡ length old.rows
-  pub columns_long : length new.columns ≡ length old.columns
-  pub values_long : length new.values ≡ length old.values
-  pub right_long : length new.right ≡ length old.right
 
-pub going_start : (s : List ℕ) (old : Arrays) → Room old → Going s old (head 0 0 0 0 0 0) 0 old
+pub going_start : (s : List ℕ) (old : Arrays) → Room old → Going s old (head Start 0 0 0 0) 0 old
 unfolding read_file
 going_start s old v =
     record {
@@ -45,15 +47,11 @@ going_start s old v =
       rest = refl;
       fits = record { room = v; n = omega arith; count = omega arith; entries = omega arith; fresh = λ e. (refl, refl) };
       behind = record { rows = refl; columns = refl; values = refl; right = refl };
-      rows_long = refl;
-      columns_long = refl;
-      values_long = refl;
-      right_long = refl;
     }
 
 -- what the reader answers and leaves
 abbrev pub Read : List ℕ → Arrays → Answer → Arrays → Type 0
-Read s old a new = (a ≡ answered (read_file s)) × (new ≡ laid (read_file s).job old) × Within (read_file s).job
+Read s old a new = (said a ≡ answered (read_file s)) × (new ≡ laid (read_file s).job old) × Within (read_file s).job
 
 module _ {s : List ℕ} {old : Arrays} {h : Head} {at : ℕ} {new : Arrays} (v : Going s old h at new) where
   pub going_entries : (h.entries ≤ length new.rows) × (h.entries ≤ length new.columns)
@@ -61,10 +59,10 @@ module _ {s : List ℕ} {old : Arrays} {h : Head} {at : ℕ} {new : Arrays} (v :
       let f = v.fits in
       (omega (arith, f.entries, f.count, f.room.rows), omega (arith, f.entries, f.count, f.room.columns))
 
-  head-is : head_of (held_by h new) ≡ h
+  head-is : head_of (held_by h new) ≡ (said (record { number = 0; head = h })).head
   head-is =
       let e = length-take-le h.entries new.rows going_entries.0 in
-      λ k. head h.stage h.n h.count (e k) h.next h.engine
+      λ k. record { stage = place_of h.stage; n = h.n; count = h.count; entries = e k; next = h.next; engine = engine_of h.stage }
 
   laid-is : laid (held_by h new) old ≡ new
   unfolding laid
@@ -88,7 +86,7 @@ module _ {s : List ℕ} {old : Arrays} {h : Head} {at : ℕ} {new : Arrays} (v :
 
   answer_is : {x : ℕ} → read_file s ≡ record { number = x; job = held_by h new } → Read s old (record { number = x; head = h }) new
   answer_is {x = x} e = (
-    sym (ap answered e ∙ ap (λ (y : Head). record { number = x; head = y }) head-is),
+    sym (ap answered e ∙ ap (λ (y : Numbers). record { number = x; head = y }) head-is),
     sym (ap (λ (o : Outcome). laid o.job old) e ∙ laid-is),
     subst (λ (o : Outcome). Within o.job) (sym e) within-is,
   )
@@ -106,12 +104,18 @@ module _ {s : List ℕ} {old : Arrays} {h : Head} {at : ℕ} {new : Arrays} (v :
       ∙ reads_stop r _ (held_by h new) (λ q. z (g ∙ q))
       ∙ ap (λ (y : ℕ). record { number = y; job = held_by h new }) (sym g))
 
+  pub going_wrong : at < length s → malformed (first (drop at s)) ≡ true → Read s old (record { number = 12; head = h }) new
+  going_wrong l e =
+      let f = malformed_is (held_by h new) (first (drop at s)) e in
+      answer_is
+      (sym v.rest
+      ∙ ap (λ (rs : List Record). reads rs (held_by h new)) (rest-is s at l refl refl)
+      ∙ reads_stop (first (drop at s)) _ (held_by h new) (λ q. omega (arith, f, q))
+      ∙ ap (λ (y : ℕ). record { number = y; job = held_by h new }) f)
+
   pub going_turn : {r : Record} {x : Head} {next : Arrays} {k : ℕ} → at < length s → r ≡ first (drop at s) → fault (held_by h new) r ≡ 0
-      → Kept h new r x next → k ≡ size r
-      → length next.rows ≡ length new.rows → length next.columns ≡ length new.columns → length next.values ≡ length new.values → length next.right
-      ≡ length new.right
-      → Going s old x (at + k) next
-  going_turn {r = r} {x = x} {next = next} {k = k} l e z w f lr lc lv lb =
+      → Kept h new r x next → k ≡ size r → Going s old x (at + k) next
+  going_turn {r = r} {x = x} {next = next} {k = k} l e z w f =
       let b = v.behind in
       let d = w.behind in
       record {
@@ -128,19 +132,18 @@ module _ {s : List ℕ} {old : Arrays} {h : Head} {at : ℕ} {new : Arrays} (v :
           values = d.values ∙ drop_further h.entries x.entries new.values old.values w.more b.values;
           right = d.right ∙ drop_further h.n x.n new.right old.right w.wider b.right;
         };
-        rows_long = lr ∙ v.rows_long;
-        columns_long = lc ∙ v.columns_long;
-        values_long = lv ∙ v.values_long;
-        right_long = lb ∙ v.right_long;
       }
 
   ended : length s ≤ at → read_file s ≡ record { number = at_end (held_by h new); job = held_by h new }
   ended l = sym v.rest ∙ ap (λ (t : List ℕ). reads (records t) (held_by h new)) (left-none s at l) ∙ reads_end (held_by h new)
 
-  pub going_short : length s ≤ at → (h.stage ≡ 2 → ⊥) → Read s old (record { number = 12; head = h }) new
+  pub going_short : length s ≤ at → (h.stage ≡ Start) ⊎ (h.stage ≡ Sized) → Read s old (record { number = 12; head = h }) new
   unfolding at_end
-  going_short l z = answer_is (ended l ∙ simp (ne_eqb h.stage 2 z))
+  going_short l e =
+      let n : place_of h.stage ≡ 2 → ⊥ =
+      ⊎_elim (λ (f : h.stage ≡ Start). λ z. omega (arith, ap place_of f, z)) (λ (f : h.stage ≡ Sized). λ z. omega (arith, ap place_of f, z)) e in
+      answer_is (ended l ∙ simp (ne_eqb (place_of h.stage) 2 n))
 
-  pub going_done : length s ≤ at → h.stage ≡ 2 → Read s old (record { number = 0; head = h }) new
+  pub going_done : {engine : Engine} → length s ≤ at → h.stage ≡ Ended engine → Read s old (record { number = 0; head = h }) new
   unfolding at_end
-  going_done l z = answer_is (ended l ∙ simp (eq-eqb h.stage 2 z))
+  going_done l e = answer_is (ended l ∙ simp (eq-eqb (place_of h.stage) 2 (ap place_of e)))

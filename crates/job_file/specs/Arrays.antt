@@ -3,8 +3,8 @@ use Rattle.std.specs.Prelude.{◌≡◌, List, ℕ, ◌≤◌, Float, length}
 use Rattle.lists.specs.Calls.{onto}
 use Rattle.job_file.specs.Faults.{Job}
 use Rattle.job_file.specs.Reading.{Outcome}
-use Rattle.job_file.specs.declared.read.Head.{Head}
 use Rattle.job_file.specs.declared.read.Answer.{Answer}
+use Rattle.job_file.specs.Told.{place_of, engine_of}
 
 pub record Arrays : Type 0 where
   pub rows : List ℕ
@@ -19,11 +19,39 @@ arrays rows columns values right = record { rows = rows; columns = columns; valu
 unfoldable pub laid : Job → Arrays → Arrays
 laid j old = arrays (onto old.rows j.entries.rows) (onto old.columns j.entries.columns) (onto old.values j.entries.values) (onto old.right j.right)
 
--- the answer: the number, and the job's own numbers
-abbrev pub head_of : Job → Head
+-- the answer in numbers
+pub record Numbers : Type 0 where
+  pub stage : ℕ
+  pub n : ℕ
+  pub count : ℕ
+  pub entries : ℕ
+  pub next : ℕ
+  pub engine : ℕ
+
+pub record Said : Type 0 where
+  pub number : ℕ
+  pub head : Numbers
+
+abbrev pub said : Answer → Said
+said a =
+    let h = a.head in
+    record {
+      number = a.number;
+      head = record {
+        stage = place_of h.stage;
+        n = h.n;
+        count = h.count;
+        entries = h.entries;
+        next = h.next;
+        engine = engine_of h.stage;
+      };
+    }
+
+-- the number, and the job's own numbers
+abbrev pub head_of : Job → Numbers
 head_of j = record { stage = j.place.stage; n = j.n; count = j.count; entries = length j.entries.rows; next = j.place.next; engine = j.engine }
 
-abbrev pub answered : Outcome → Answer
+abbrev pub answered : Outcome → Said
 answered o = record { number = o.number; head = head_of o.job }
 
 -- what the later stages may count on, fault or not

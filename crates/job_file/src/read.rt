@@ -1,26 +1,41 @@
 // The job file read: each record judged where it stands, and then laid into the arrays.
 ghost use Rattle.std.specs.Prelude.{◌≡◌};
 ghost use Rattle.job_file.specs.Reading.{read_file};
-ghost use Rattle.job_file.specs.Arrays.{arrays, laid, answered, Within};
+ghost use Rattle.job_file.specs.Arrays.{arrays, laid, said, answered, Within};
 ghost use Rattle.job_file.specs.Keeping.{Room};
 
 use crate::fault::fault;
 use crate::keep::keep;
 use crate::record::{record_at, size_of};
 
+// What GO names.
+#[derive(Clone, Copy, PartialEq, Eq)]
+pub enum Engine {
+    Left,
+    Up,
+}
+
+// How far a file has come.
+#[derive(Clone, Copy, PartialEq, Eq)]
+pub enum Stage {
+    // before SZ
+    Start,
+    // behind SZ
+    Sized,
+    // behind GO
+    Ended(Engine),
+}
+
 // What has been read so far, beside the arrays.
 #[derive(Clone, Copy)]
 pub struct Head {
-    // 0 before SZ, 1 after it, 2 after GO
-    pub stage: u32,
+    pub stage: Stage,
     pub n: u32,
     pub count: u32,
     // how many EN there were
     pub entries: u32,
     // one more than the row of the last RH
     pub next: u32,
-    // 1 left, 2 up
-    pub engine: u32,
 }
 
 // The number, 0 for a sound file, and what was read before the faulty record.
@@ -41,36 +56,35 @@ fn records(
     ensures { let old = arrays rows.old columns.old values.old right.old in
         let new = arrays rows.new columns.new values.new right.new in
         let o = read_file s.now in
-        (result ≡ answered o) × (new ≡ laid o.job old) × Within o.job }
+        (said result ≡ answered o) × (new ≡ laid o.job old) × Within o.job }
 {
     let mut h = Head {
-        stage: 0,
+        stage: Stage::Start,
         n: 0,
         count: 0,
         entries: 0,
         next: 0,
-        engine: 0,
     };
     let mut at = 0;
     while at < s.len() {
-        let r = record_at(s, at);
-        let number = fault(r, h, rows, columns);
-        if number != 0 {
+        let Some(r) = record_at(s, at) else {
             return Answer {
-                number: number,
+                number: 12,
                 head: h,
             };
+        };
+        let number = fault(r, h, rows, columns);
+        if number != 0 {
+            return Answer { number, head: h };
         }
         h = keep(r, h, rows, columns, values, right);
         at += size_of(r);
     }
-    if h.stage != 2 {
-        return Answer {
-            number: 12,
-            head: h,
-        };
-    }
-    Answer { number: 0, head: h }
+    let number = match h.stage {
+        Stage::Ended(_) => 0,
+        Stage::Start | Stage::Sized => 12,
+    };
+    Answer { number, head: h }
 }
 
 // The job file s, laid into the front of the arrays: places of the entries, their values, and the dense right side.
@@ -84,7 +98,7 @@ pub fn read_job(
     ensures { let old = arrays rows.old columns.old values.old right.old in
         let new = arrays rows.new columns.new values.new right.new in
         let o = read_file s.now in
-        (result ≡ answered o) × (new ≡ laid o.job old) × Within o.job }
+        (said result ≡ answered o) × (new ≡ laid o.job old) × Within o.job }
 {
     records(s, rows, columns, values, right)
 }

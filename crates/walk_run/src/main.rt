@@ -63,17 +63,10 @@ fn walk(
 
 // A column as the part between its two pointers, with two calls more than it has entries.
 fn column(rt: &impl Print, name: &str, a: usize, e: usize, i: &[u32], v: &[f64]) -> io::Result<()> {
-    if e > i.len() {
+    if a > e || e > i.len() || e > v.len() {
         return Ok(());
     }
-    if e > v.len() {
-        return Ok(());
-    }
-    if a > e {
-        return Ok(());
-    }
-    let n = e - a;
-    walk(rt, name, 0, &i[a..e], &v[a..e], n + 2)
+    walk(rt, name, 0, &i[a..e], &v[a..e], e - a + 2)
 }
 
 // The columns of document 01's matrix Q.
@@ -91,7 +84,7 @@ fn small(rt: &impl Print) -> io::Result<()> {
     walk(rt, "empty", 0, &[], &[], 2)?;
     walk(rt, "single", 0, &[7], &[0.5], 3)?;
     walk(rt, "zeros", 0, &[0, 65534], &[-0.0, 0.0], 3)?;
-    walk(rt, "not a number", 0, &[4294967295], &[0.0 / 0.0], 2)
+    walk(rt, "not a number", 0, &[u32::MAX], &[f64::NAN], 2)
 }
 
 // From a position inside, at the end, past it, and as far past as can be.
@@ -102,7 +95,7 @@ fn positions(rt: &impl Print) -> io::Result<()> {
     walk(
         rt,
         "from the last",
-        18446744073709551615,
+        usize::MAX,
         &[5, 6, 7],
         &[1.0, 2.0, 3.0],
         2,

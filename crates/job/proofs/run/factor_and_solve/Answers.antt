@@ -4,6 +4,7 @@ use lib.ListN.{length-replicate}
 use mathlib.Core.Path.{sym}
 use native.Mathlib.Omega.{arith}
 use Rattle.lists.specs.Calls.{none}
+use Rattle.job_file.specs.Told.{byte}
 use Rattle.cs_tree.specs.Pattern.{analysis}
 use Rattle.job.proofs.Running.{run_lp, run_room, run-refused, run-done}
 use Rattle.job.proofs.run.factor_and_solve.Goals as goal
@@ -28,8 +29,8 @@ slice_bounds-factor-end-3 c = sym (length-take-le _ _ (omega (arith, c.requires.
 
 pub returns-then-f-ne0 : goal.returns-then-f-ne0
 returns-then-f-ne0 c = run-refused c.args.n c.args.p.now c.args.i.now c.args.v.now
-    (analysis c.args.tree.now c.args.up.now c.args.ui.now c.args.lp.now c.args.li.now) c.requires.0 c.requires.1 c.requires.2 c.args.engine
-    c.args.b.now c.wide-stored.ensures.0 c.factor-f.result _ c.factor-f.ensures c.if-f-ne0.true
+    (analysis c.args.tree.now c.args.up.now c.args.ui.now c.args.lp.now c.args.li.now) c.requires.0 c.requires.1 c.requires.2
+    (byte c.args.engine) c.args.b.now c.wide-stored.ensures.0 c.factor-f.result _ c.factor-f.ensures c.if-f-ne0.true
 
 pub offset_bounds-lp-n : goal.offset_bounds-lp-n
 offset_bounds-lp-n c = omega (arith, c.requires.0.pointers, c.requires.1)
@@ -78,5 +79,5 @@ slice_bounds-solve-end-3 c = sym (length-take-le _ _
 
 pub returns : goal.returns
 returns c = run-done c.args.n c.args.p.now c.args.i.now c.args.v.now (analysis c.args.tree.now c.args.up.now c.args.ui.now c.args.lp.now
-    c.args.li.now) c.requires.0 c.requires.1 c.requires.2 c.args.engine c.args.b.now c.wide-stored.ensures.0 c.factor-f.result _ c.factor-f.ensures
+    c.args.li.now) c.requires.0 c.requires.1 c.requires.2 (byte c.args.engine) c.args.b.now c.wide-stored.ensures.0 c.factor-f.result _ c.factor-f.ensures
     c.if-f-ne0.false c.wide-entries.ensures.0 c.solve.ensures
