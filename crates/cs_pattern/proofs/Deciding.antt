@@ -1,5 +1,5 @@
 -- What `read_upper` tells, and what `decide` makes of it: each step, and each way out. Assumes nothing.
-use Rattle.std.proofs.Common.{◌≡◌, ℕ, ◌+◌, ◌<◌, ◌≤◌, Bool, true, false, not, ◌&&◌, ltb, List, [], ◌∷◌, length, get_or, sym, ap, ◌∙◌, true≢false}
+use Rattle.std.proofs.Common.{◌≡◌, ℕ, ◌+◌, ◌<◌, ◌≤◌, Bool, true, false, not, ◌&&◌, ltb, Option, List, [], ◌∷◌, length, get_or, sym, ap, ◌∙◌, true≢false}
 use Rattle.std.proofs.Common.{arith, take_all, le-ltb, lt-ltb}
 use mathlib.Core.List.{flatten}
 use Rattle.lists.specs.Calls.{lowest, cleared}
@@ -22,7 +22,7 @@ use Rattle.cs_tree.proofs.Promises.{promised, filled}
 use Rattle.cs_pattern.specs.Columns.{columns}
 use Rattle.lists.specs.Order.{starts_with}
 use Rattle.cs_pattern.specs.Compare.{same, tight}
-use Rattle.cs_pattern.specs.Steps.{Outlined, Known}
+use Rattle.cs_pattern.specs.Steps.{Counted, Outlined, Known}
 use Rattle.cs_pattern.proofs.Columns.{columns_fit, columns_long}
 use Rattle.cs_pattern.proofs.Filled.{tree-size, upper-size, tree-part, outline_asks}
 use Rattle.lists.proofs.Bools.{alike}
@@ -163,7 +163,7 @@ module _ {n : ℕ} {p i : List ℕ} (v : ValidPattern (pattern n n p i)) (w1 w2 
 
   -- they are not: U's entries are counted
   module _ {w1a w2a : List ℕ} (k1 : Kept 0 n w1 w1a) (k2 : Kept 0 n w2 w2a) where
-    module _ (room : ℕ) (tr up ui lp li : List ℕ) {t : ℕ} {w1b w2b w3b : List ℕ} (B : Outlined D n t w1a w1b w2a w2b w3 w3b) where
+    module _ (room : ℕ) (tr up ui lp li : List ℕ) {t : Option ℕ} {w1b w2b w3b : List ℕ} (B : Outlined D n t w1a w1b w2a w2b w3 w3b) where
       abbrev held : Analysis
       held = analysis tr up ui lp li
 
@@ -183,26 +183,27 @@ module _ {n : ℕ} {p i : List ℕ} (v : ValidPattern (pattern n n p i)) (w1 w2 
       unfolding analysed
       ui_size = length-laid (upper D)
 
-      pub counted_many : 4194304 < t → Answers 7
+      pub counted_many : 4194304 < entries (upper D) → Answers 7
       unfolding tight
-      counted_many h = answers (rw (ui_size, lt-ltb 4194304 (entries (upper D)) (omega (arith, B.count))))
+      counted_many h = answers (rw (ui_size, lt-ltb 4194304 (entries (upper D)) h))
 
-      module _ (few : t ≤ 4194304) where
-        t_is : t ≡ entries (upper D)
-        t_is = omega (arith, B.count)
-
-        pub counted-tight : room < t → Answers 7
+      module _ {m : ℕ} (C : Counted (upper D) w3 w3b m) where
+        pub counted-tight : room < m → Answers 7
         unfolding tight
         counted-tight h = answers (rw (
           ui_size,
-          le-ltb 4194304 (entries (upper D)) (omega (arith, t_is)),
-          lt-ltb room (entries (upper D)) (omega (arith, t_is)),
+          le-ltb 4194304 (entries (upper D)) (omega (arith, C.size, C.few)),
+          lt-ltb room (entries (upper D)) (omega (arith, C.size)),
         ))
 
-        module _ (l : t ≤ room) {r : Bool} (z : r ≡ false) (d : Known D tr up ui → r ≡ true) where
+        module _ (l : m ≤ room) {r : Bool} (z : r ≡ false) (d : Known D tr up ui → r ≡ true) where
           wide_enough : tight room (analysed D) ≡ false
           unfolding tight
-          wide_enough = rw (ui_size, le-ltb 4194304 (entries (upper D)) (omega (arith, t_is)), le-ltb room (entries (upper D)) (omega (arith, t_is)))
+          wide_enough = rw (
+            ui_size,
+            le-ltb 4194304 (entries (upper D)) (omega (arith, C.size, C.few)),
+            le-ltb room (entries (upper D)) (omega (arith, C.size)),
+          )
 
           known : same (analysed D) held ≡ true → Known D tr up ui
           unfolding same analysed
@@ -210,7 +211,7 @@ module _ {n : ℕ} {p i : List ℕ} (v : ValidPattern (pattern n n p i)) (w1 w2 
               let a = (and-true (starts_with (tree D) tr && starts_with (starts 0 (upper D)) up && starts_with (flatten (upper D)) ui) _ h).0 in
               let b = and-true (starts_with (tree D) tr && starts_with (starts 0 (upper D)) up) _ a in
               let g = and-true (starts_with (tree D) tr) _ b.0 in
-              record { tree_same = g.0; holds = holds v up ui g.1 b.1; few = omega (arith, t_is) }
+              record { tree_same = g.0; holds = holds v up ui g.1 b.1; few = omega (arith, C.size, C.few) }
 
           differ : same (analysed D) held ≡ false
           differ = alike (same (analysed D) held) false (λ h. absurd (not-both _ (d (known h)) z)) (λ h. absurd (true≢false (sym h)))

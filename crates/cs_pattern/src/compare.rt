@@ -6,15 +6,14 @@ ghost use Rattle.lists.specs.Calls.{lowest, scratch, worked};
 ghost use Rattle.lists.specs.Keeping.{Kept};
 ghost use Rattle.lists.specs.Refusals.{numbered};
 ghost use Rattle.cs_matrix.specs.Lent.{pattern_of};
-ghost use Rattle.cs_matrix.specs.Matrix.{pattern, needed, ValidPattern};
-ghost use Rattle.cs_tree.specs.Pattern.{analysis, analysed, transposed, starts};
+ghost use Rattle.cs_matrix.specs.Matrix.{needed, ValidPattern};
+ghost use Rattle.cs_tree.specs.Pattern.{analysed, transposed, starts};
 ghost use Rattle.cs_tree.specs.Steps.{Whole};
 ghost use Rattle.cs_pattern.specs.Columns.{columns};
-ghost use Rattle.cs_pattern.specs.Lent.{analysis_of};
+ghost use Rattle.cs_pattern.specs.Lent.{analysis_of, square_of};
 ghost use Rattle.lists.specs.Order.{starts_with};
 ghost use Rattle.cs_pattern.specs.Compare.{same as sameAs, tight, number};
 
-use crate::count::MOST;
 use crate::fill::outline;
 use crate::look::look;
 use crate::quick::read_upper;
@@ -34,66 +33,63 @@ pub struct Analysis<'a> {
     pub li: &'a [u32],
 }
 
-// Numbers 7 and 8, or 0, where U is known to be held, with t entries.
+// 7 or 8, or nothing, where U is known to be held, with t entries.
 fn judge_lower(
     n: usize,
     t: usize,
     room: usize,
-    up: &[u32],
-    ui: &[u32],
-    lp: &[u32],
-    li: &[u32],
+    given: Analysis<'_>,
     w3: &mut [u32],
 ) -> Result<(), Refusal>
-    requires { Whole n t up.now ui.now × (n ≤ length w3.old) }
-    ensures { ((w : Whole n t up.now ui.now)
+    requires { Whole n t given.up.now given.ui.now × (n ≤ length w3.old) }
+    ensures { let given = analysis_of given.entry in
+        ((w : Whole n t given.up given.ui)
         → numbered result ≡ lowest ((7, nat_lt room t) ∷ (
           8,
-          not (starts_with (starts 0 (transposed w.us)) lp.now && starts_with (flatten (transposed w.us)) li.now),
+          not (starts_with (starts 0 (transposed w.us)) given.lp && starts_with (flatten (transposed w.us)) given.li),
         ) ∷ []))
         × Kept 0 n w3.old w3.new }
 {
     if room < t {
         return Err(Refusal::NoRoom);
     }
-    if !look(n, t, up, ui, lp, li, w3) {
+    if !look(n, t, given, w3) {
         return Err(Refusal::WrongAnalysis);
     }
     Ok(())
 }
 
-// Numbers 7 and 8, or 0.
+// 7 or 8, or nothing.
 fn decide(
-    n: usize,
+    a: Pattern<'_>,
     room: usize,
-    p: &[u32],
-    i: &[u32],
-    tree: &[u32],
-    up: &[u32],
-    ui: &[u32],
-    lp: &[u32],
-    li: &[u32],
+    given: Analysis<'_>,
     w1: &mut [u32],
     w2: &mut [u32],
     w3: &mut [u32],
 ) -> Result<(), Refusal>
-    requires { ValidPattern (pattern n n p.now i.now) × (n + 1 ≤ length w1.old) × (n + 1 ≤ length w2.old) × (n + 1 ≤ length w3.old) }
-    ensures { let f = analysed (columns (pattern n n p.now i.now)) in
-        let given = analysis tree.now up.now ui.now lp.now li.now in
+    requires { let n = a.ncols in
+        ValidPattern (square_of a) × (n + 1 ≤ length w1.old) × (n + 1 ≤ length w2.old) × (n + 1 ≤ length w3.old) }
+    ensures { let f = analysed (columns (square_of a.entry)) in
+        let given = analysis_of given.entry in
+        let n = a.entry.ncols in
         (numbered result ≡ lowest ((7, tight room f) ∷ (8, not (sameAs f given)) ∷ []))
         × Kept 0 (n + 1) w1.old w1.new × Kept 0 (n + 1) w2.old w2.new × Kept 0 (n + 1) w3.old w3.new }
 {
-    if read_upper(n, p, i, tree, up, ui, w1, w2) {
-        return judge_lower(n, wide(up[n]), room, up, ui, lp, li, w3);
+    if read_upper(a, given, w1, w2) {
+        let n = a.ncols;
+        return judge_lower(n, wide(given.up[n]), room, given, w3);
     }
-    let t = outline(n, p, i, w1, w2, w3);
-    if t > MOST || room < t {
+    let Some(t) = outline(a, w1, w2, w3) else {
+        return Err(Refusal::NoRoom);
+    };
+    if room < t {
         return Err(Refusal::NoRoom);
     }
     Err(Refusal::WrongAnalysis)
 }
 
-// The number that a lent analysis of a pattern gets, where L's values have the length room.
+// What refuses a lent analysis of a pattern first, or nothing, where L's values have the length room.
 pub fn compare(
     a: Pattern<'_>,
     room: usize,
@@ -110,15 +106,7 @@ pub fn compare(
         (numbered result ≡ number a room given old) × (new ≡ worked (numbered result) (needed a) old) }
 {
     prepare(a, w1, w2, w3, x)?;
-    let Pattern { ncols, p, i, .. } = a;
-    let Analysis {
-        tree,
-        up,
-        ui,
-        lp,
-        li,
-    } = given;
-    let answer = decide(ncols, room, p, i, tree, up, ui, lp, li, w1, w2, w3);
-    clear_scratch(ncols + 1, w1, w2, w3, x);
+    let answer = decide(a, room, given, w1, w2, w3);
+    clear_scratch(a.ncols + 1, w1, w2, w3, x);
     answer
 }

@@ -11,6 +11,7 @@ ghost use Rattle.cs_tree.specs.Steps.{Whole, Spread, Spreads, numbers};
 ghost use Rattle.lists.specs.Order.{starts_with};
 ghost use Rattle.cs_pattern.specs.Steps.{Looked};
 
+use crate::compare::Analysis;
 use lists::numbers::wide;
 use lists::order::starts_with;
 use lists::sides::copy;
@@ -52,20 +53,13 @@ fn look_columns(n: usize, up: &[u32], ui: &[u32], next: &mut [u32], li: &[u32]) 
 }
 
 // L, with the t entries of U, is what lp and li hold.
-pub fn look(
-    n: usize,
-    t: usize,
-    up: &[u32],
-    ui: &[u32],
-    lp: &[u32],
-    li: &[u32],
-    w: &mut [u32],
-) -> bool
-    requires { Whole n t up.now ui.now × (n ≤ length w.old) }
-    ensures { ((u : Whole n t up.now ui.now)
-        → result ≡ (starts_with (starts 0 (transposed u.us)) lp.now && starts_with (flatten (transposed u.us)) li.now))
+pub fn look(n: usize, t: usize, given: Analysis<'_>, w: &mut [u32]) -> bool
+    requires { Whole n t given.up.now given.ui.now × (n ≤ length w.old) }
+    ensures { ((u : Whole n t given.entry.up.now given.entry.ui.now)
+        → result ≡ (starts_with (starts 0 (transposed u.us)) given.entry.lp.now && starts_with (flatten (transposed u.us)) given.entry.li.now))
         × Kept 0 n w.old w.new }
 {
+    let Analysis { up, ui, lp, li, .. } = given;
     if lp.len() <= n || lp[0] != 0 || li.len() < t {
         return false;
     }

@@ -3,17 +3,19 @@
 ghost use Rattle.std.specs.Prelude.{◌≡◌, ℕ, suc, ◌+◌, ◌^◌, ◌<◌, ◌≤◌, true, List, [], length, slice_index, IfSome, IsSome};
 ghost use Rattle.lists.specs.Keeping.{Kept};
 ghost use Rattle.lists.specs.Order.{rises};
-ghost use Rattle.cs_matrix.specs.Matrix.{pattern, ValidPattern};
+ghost use Rattle.cs_matrix.specs.Matrix.{ValidPattern};
 ghost use Rattle.cs_tree.specs.Backward.{Stops, Read, Holds};
 ghost use Rattle.cs_tree.specs.Ending.{Unlisted, Ending};
 ghost use Rattle.cs_tree.specs.Pattern.{path, paths};
 ghost use Rattle.lists.specs.Keeping.{Zeros};
 ghost use Rattle.cs_tree.specs.Steps.{Walks, Marks, Given};
 ghost use Rattle.cs_pattern.specs.Columns.{columns};
+ghost use Rattle.cs_pattern.specs.Lent.{square_of};
 ghost use Rattle.cs_pattern.specs.Steps.{Known};
 
-use crate::count::MOST;
+use crate::compare::Analysis;
 use crate::tree::elimination_tree;
+use cs_matrix::matrix::{MAX_ENTRIES, Pattern};
 use lists::clear::fill;
 use lists::numbers::wide;
 use lists::order::starts_with;
@@ -92,61 +94,47 @@ fn read_column(k: u32, rows: &[u32], par: &[u32], mark: &mut [u32], held: &[u32]
 }
 
 // U is what up and ui hold.
-fn read_columns(
-    n: usize,
-    p: &[u32],
-    i: &[u32],
-    par: &[u32],
-    mark: &mut [u32],
-    up: &[u32],
-    ui: &[u32],
-) -> bool
-    requires { let cols = columns (pattern n n p.now i.now) in
-        ValidPattern (pattern n n p.now i.now) × Given cols par.now × (length mark.old ≡ n) × Zeros mark.old × (n < length up.now) }
-    ensures { let cols = columns (pattern n n p.now i.now) in
+fn read_columns(a: Pattern<'_>, par: &[u32], mark: &mut [u32], up: &[u32], ui: &[u32]) -> bool
+    requires { let cols = columns (square_of a) in
+        ValidPattern (square_of a) × Given cols par.now × (length mark.old ≡ a.ncols) × Zeros mark.old × (a.ncols < length up.now) }
+    ensures { let cols = columns (square_of a.entry) in
         (result ≡ true → Holds cols up.now ui.now) × (Holds cols up.now ui.now → result ≡ true) }
 {
+    let Pattern { ncols: n, p, i, .. } = a;
     if up[0] != 0 {
         return false;
     }
     for k in 0..n {
-        let a = wide(p[k]);
-        let e = wide(p[k + 1]);
+        let start = wide(p[k]);
+        let end = wide(p[k + 1]);
         let b = wide(up[k]);
         let f = wide(up[k + 1]);
         let Some(held) = ui.get(b..f) else {
             return false;
         };
-        if !read_column(k as u32, &i[a..e], par, mark, held) {
+        if !read_column(k as u32, &i[start..end], par, mark, held) {
             return false;
         }
     }
     true
 }
 
-// The tree and U are those held, and U has no more than 4,194,304 entries.
-pub fn read_upper(
-    n: usize,
-    p: &[u32],
-    i: &[u32],
-    tree: &[u32],
-    up: &[u32],
-    ui: &[u32],
-    w1: &mut [u32],
-    w2: &mut [u32],
-) -> bool
-    requires { ValidPattern (pattern n n p.now i.now) × (n ≤ length w1.old) × (n ≤ length w2.old) }
-    ensures { let cols = columns (pattern n n p.now i.now) in
-        (result ≡ true → Known cols tree.now up.now ui.now) × (Known cols tree.now up.now ui.now → result ≡ true)
-        × Kept 0 n w1.old w1.new × Kept 0 n w2.old w2.new }
+// The tree and U are those held, and U has no more entries than a matrix may have.
+pub fn read_upper(a: Pattern<'_>, given: Analysis<'_>, w1: &mut [u32], w2: &mut [u32]) -> bool
+    requires { ValidPattern (square_of a) × (a.ncols ≤ length w1.old) × (a.ncols ≤ length w2.old) }
+    ensures { let known = Known (columns (square_of a.entry)) given.entry.tree.now given.entry.up.now given.entry.ui.now in
+        (result ≡ true → known) × (known → result ≡ true)
+        × Kept 0 a.entry.ncols w1.old w1.new × Kept 0 a.entry.ncols w2.old w2.new }
 {
-    if up.len() <= n || wide(up[n]) > MOST {
+    let n = a.ncols;
+    let Analysis { tree, up, ui, .. } = given;
+    if up.len() <= n || wide(up[n]) > MAX_ENTRIES {
         return false;
     }
-    elimination_tree(n, p, i, &mut w1[0..n], &mut w2[0..n]);
+    elimination_tree(a, &mut w1[0..n], &mut w2[0..n]);
     if !starts_with(&w1[0..n], tree) {
         return false;
     }
     fill(0, n, w2);
-    read_columns(n, p, i, &w1[0..n], &mut w2[0..n], up, ui)
+    read_columns(a, &w1[0..n], &mut w2[0..n], up, ui)
 }

@@ -12,8 +12,8 @@ returns-in_err-prepare c = rw (passed_on _ _ c.from_residual.ensures.1) (at-refu
 pub decide-answer-requires : goal.decide-answer-requires
 decide-answer-requires c = decide_asked (prepared _ _ _ c.in_ok-prepare.ensures refl)
 
-pub overflow_add-ncols : goal.overflow_add-ncols
-overflow_add-ncols c = record { fits = omega (arith, (square_valid (prepared _ _ _ c.in_ok-prepare.ensures refl)).cols) }
+pub overflow_add-a : goal.overflow_add-a
+overflow_add-a c = record { fits = omega (arith, (square_valid (prepared _ _ _ c.in_ok-prepare.ensures refl)).cols) }
 
 pub returns : goal.returns
 returns c = at-end (prepared _ _ _ c.in_ok-prepare.ensures refl) _ _ c.decide-answer.ensures c.clear_scratch.ensures

@@ -27,14 +27,14 @@ returns-in_default c = (
 )
 
 pub slice_bounds-read_column-end : goal.slice_bounds-read_column-end
-slice_bounds-read_column-end c = (here c.requires.0 c.loop-k-test.true c.wide-a.ensures.0 c.wide-e.ensures.0).inside
+slice_bounds-read_column-end c = (here c.requires.0 c.loop-k-test.true c.wide-start.ensures.0 c.wide-end.ensures.0).inside
 
 pub read_column-requires : goal.read_column-requires
 read_column-requires c = (
   given_walks c.requires.1 (inside c.requires.0 c.loop-k-test.true) c.loop-k.invariant.m_long,
   c.loop-k.invariant.fresh,
   omega (arith, c.in-Some.ensures.lookup, c.wide-f.ensures.1),
-  part-rises c.requires.0 c.loop-k-test.true c.wide-a.ensures.0 c.wide-e.ensures.0,
+  part-rises c.requires.0 c.loop-k-test.true c.wide-start.ensures.0 c.wide-end.ensures.0,
 )
 
 pub returns-then-not-read_column : goal.returns-then-not-read_column
@@ -42,7 +42,7 @@ returns-then-not-read_column c = (
   λ z. absurd (true≢false (sym z)),
   λ d.
       let part = holds_column c.requires.1 d (inside c.requires.0 c.loop-k-test.true) c.wide-b.ensures.0 c.wide-f.ensures.0
-      (part-is c.requires.0 c.loop-k-test.true c.wide-a.ensures.0 c.wide-e.ensures.0) in
+      (part-is c.requires.0 c.loop-k-test.true c.wide-start.ensures.0 c.wide-end.ensures.0) in
       absurd (not-both _ (c.read_column.ensures.1 (c.in-Some.ensures.lookup.0.2 ∙ part)) c.if-not-read_column.true),
 )
 
@@ -51,7 +51,7 @@ loop-k-preserved c =
     let given = c.in-Some.ensures.lookup.0 in
     let read = c.read_column.ensures.0 c.if-not-read_column.false in
     reading_turn c.requires.1 c.loop-k.invariant (inside c.requires.0 c.loop-k-test.true)
-    (part-is c.requires.0 c.loop-k-test.true c.wide-a.ensures.0 c.wide-e.ensures.0) c.wide-b.ensures.0 c.wide-f.ensures.0 given.0 given.1
+    (part-is c.requires.0 c.loop-k-test.true c.wide-start.ensures.0 c.wide-end.ensures.0) c.wide-b.ensures.0 c.wide-f.ensures.0 given.0 given.1
     c.read_column.auto.mark (rw given.2 at read)
 
 pub returns : goal.returns
