@@ -8,6 +8,6 @@ use Rattle.cs_left.proofs.stray.some_stray.Goals as goal
 
 pub returns : goal.returns
 returns c =
-    let f = stray_at c.args.p.now c.args.i.now c.args.lp.now c.args.li.now in
-    any_from_yields_List f _ _ c.any.result c.any.ensures.ran (YieldsList-from_range 0 c.args.n c.args.n refl (omega arith)) (λ x b q k. search (rules, tests))
-    ∙ any-chosen f c.args.n
+    let f = stray_at c.args.a.p.now c.args.a.i.now c.args.given.lp.now c.args.given.li.now in
+    any_from_yields_List f _ _ c.any.result c.any.ensures.ran (YieldsList-from_range 0 c.args.a.ncols c.args.a.ncols refl (omega arith)) (λ x b q k. search (rules, tests))
+    ∙ any-chosen f c.args.a.ncols
