@@ -34,13 +34,13 @@ fn gather(
     next: &mut [u32],
     x: &mut [f64],
 ) -> f64
-    requires { Gathers k a.pattern.p.now a.pattern.i.now a.v.now given.up.now given.ui.now given.lp.now given.li.now
-        lx.now next.old (length x.old) }
-    ensures { let p = a.entry.pattern.p.now in
-        let us = column given.entry.up.now k given.entry.ui.now in
+    requires { Gathers k (square_of a) (analysis_of given) lx.now next.old (length x.old) }
+    ensures { let a = square_of a.entry in
+        let p = a.pattern.p in
+        let given = analysis_of given.entry in
+        let us = column given.up k given.ui in
         (result ≡ get_or x.new k nan)
-        × (x.new ≡ add_held k given.entry.lp.now given.entry.li.now lx.now us
-        (over (put_at k) (column p k a.entry.pattern.i.now) (column p k a.entry.v.now) x.old))
+        × (x.new ≡ add_held k given.lp given.li lx.now us (over (put_at k) (column p k a.pattern.i) (column p k a.v) x.old))
         × (next.new ≡ along (advance k) us next.old) }
 {
     let Matrix { pattern, v } = a;
@@ -77,8 +77,7 @@ fn factor(
     next: &mut [u32],
     x: &mut [f64],
 ) -> Factored
-    requires { Asked a.pattern.ncols a.pattern.p.now a.pattern.i.now a.v.now given.up.now given.ui.now given.lp.now given.li.now
-        (length lx.old) next.old x.old }
+    requires { Asked (square_of a) (analysis_of given) (length lx.old) next.old x.old }
     ensures { let a = square_of a.entry in
         Ended (entries (upper (columns a.pattern))) (left a) result lx.old lx.new }
 {
@@ -110,8 +109,7 @@ fn work(
     next: &mut [u32],
     x: &mut [f64],
 ) -> Factored
-    requires { Asked a.pattern.ncols a.pattern.p.now a.pattern.i.now a.v.now given.up.now given.ui.now given.lp.now given.li.now
-        (length lx.old) next.old x.old }
+    requires { Asked (square_of a) (analysis_of given) (length lx.old) next.old x.old }
     ensures { let a = square_of a.entry in
         (result ≡ (left a).answer) × (lx.new ≡ written (entries (upper (columns a.pattern))) (left a) lx.old) }
 {

@@ -1,10 +1,10 @@
 // Number 9: a stored row below the diagonal that L's pattern has no place for.
 ghost use Rattle.std.specs.Prelude.{◌≡◌, true, ◌+◌, ◌≤◌, length};
 ghost use Rattle.lists.specs.Calls.{cleared};
-ghost use Rattle.lists.specs.Choices.{some, chosen};
 ghost use Rattle.lists.specs.Order.{rises};
-ghost use Rattle.cs_matrix.specs.Matrix.{column};
-ghost use Rattle.cs_left.specs.Steps.{stray_in, Mirrors, Seeks, Sought};
+ghost use Rattle.cs_matrix.specs.Lent.{pattern_of};
+ghost use Rattle.cs_pattern.specs.Lent.{analysis_of};
+ghost use Rattle.cs_left.specs.Steps.{stray_in, stray_at, some_stray, Mirrors, Seeks, Sought};
 
 use crate::mirror::meet_columns;
 use cs_matrix::matrix::Pattern;
@@ -42,8 +42,8 @@ fn stray(k: usize, rows: &[u32], held: &[u32]) -> bool
 
 // Column k has such a row. Where all its rows are met none is sought.
 fn stray_at(k: usize, a: Pattern<'_>, given: Analysis<'_>, next: &[u32]) -> bool
-    requires { Seeks k a.p.now a.i.now given.lp.now given.li.now next.now }
-    ensures { result ≡ stray_in k (column given.entry.lp.now k given.entry.li.now) (column a.entry.p.now k a.entry.i.now) }
+    requires { Seeks k (pattern_of a) (analysis_of given) next.now }
+    ensures { result ≡ stray_at (pattern_of a.entry) (analysis_of given.entry) k }
 {
     let Pattern { p, i, .. } = a;
     let Analysis { lp, li, .. } = given;
@@ -59,18 +59,17 @@ fn stray_at(k: usize, a: Pattern<'_>, given: Analysis<'_>, next: &[u32]) -> bool
 
 // Some column has.
 fn some_stray(a: Pattern<'_>, given: Analysis<'_>, next: &[u32]) -> bool
-    requires { Sought a.ncols a.p.now a.i.now given.lp.now given.li.now (length next.now) × Mirrors a.ncols a.p.now a.i.now next.now }
-    ensures { result ≡ some (chosen a.entry.ncols
-        (λ k. stray_in k (column given.entry.lp.now k given.entry.li.now) (column a.entry.p.now k a.entry.i.now))) }
+    requires { let a = pattern_of a in
+        Sought a (analysis_of given) (length next.now) × Mirrors a.ncols a.p a.i next.now }
+    ensures { result ≡ some_stray (pattern_of a.entry) (analysis_of given.entry) }
 {
     (0..a.ncols).any(|k| stray_at(k, a, given, next))
 }
 
 // The same, once all rows are met that can be.
 fn seek(a: Pattern<'_>, given: Analysis<'_>, next: &mut [u32]) -> bool
-    requires { Sought a.ncols a.p.now a.i.now given.lp.now given.li.now (length next.old) }
-    ensures { result ≡ some (chosen a.entry.ncols
-        (λ k. stray_in k (column given.entry.lp.now k given.entry.li.now) (column a.entry.p.now k a.entry.i.now))) }
+    requires { Sought (pattern_of a) (analysis_of given) (length next.old) }
+    ensures { result ≡ some_stray (pattern_of a.entry) (analysis_of given.entry) }
 {
     meet_columns(a, next);
     some_stray(a, given, next)
@@ -78,10 +77,8 @@ fn seek(a: Pattern<'_>, given: Analysis<'_>, next: &mut [u32]) -> bool
 
 // The same, with scratch, the needed part of which is left zeros.
 pub fn strays(a: Pattern<'_>, given: Analysis<'_>, w: &mut [u32]) -> bool
-    requires { Sought a.ncols a.p.now a.i.now given.lp.now given.li.now a.ncols × (a.ncols ≤ length w.old) }
-    ensures { (result ≡ some (chosen a.entry.ncols
-        (λ k. stray_in k (column given.entry.lp.now k given.entry.li.now) (column a.entry.p.now k a.entry.i.now))))
-        × (w.new ≡ cleared 0 (a.entry.ncols + 1) w.old) }
+    requires { Sought (pattern_of a) (analysis_of given) a.ncols × (a.ncols ≤ length w.old) }
+    ensures { (result ≡ some_stray (pattern_of a.entry) (analysis_of given.entry)) × (w.new ≡ cleared 0 (a.entry.ncols + 1) w.old) }
 {
     let n = a.ncols;
     let found = seek(a, given, &mut w[0..n]);

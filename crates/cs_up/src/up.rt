@@ -33,11 +33,8 @@ fn column(
     next: &mut [u32],
     x: &mut [f64],
 ) -> f64
-    requires { Turns k a.pattern.p.now a.pattern.i.now a.v.now given.up.now given.ui.now given.lp.now given.li.now
-        lx.old next.old x.old }
-    ensures { Gone k a.entry.pattern.p.now a.entry.pattern.i.now a.entry.v.now
-        given.entry.up.now given.entry.ui.now given.entry.lp.now given.entry.li.now
-        lx.old next.old x.old lx.new next.new x.new result }
+    requires { Turns k (square_of a) (analysis_of given) lx.old next.old x.old }
+    ensures { Gone k (square_of a.entry) (analysis_of given.entry) lx.old next.old x.old lx.new next.new x.new result }
 {
     let Matrix { pattern, v } = a;
     let Pattern { p, i, .. } = pattern;
@@ -69,8 +66,7 @@ fn factor(
     next: &mut [u32],
     x: &mut [f64],
 ) -> Factored
-    requires { Ready a.pattern.ncols a.pattern.p.now a.pattern.i.now a.v.now given.up.now given.ui.now given.lp.now given.li.now
-        lx.old next.old x.old }
+    requires { Ready (square_of a) (analysis_of given) lx.old next.old x.old }
     ensures { let f = upOf (square_of a.entry) in
         (result ≡ f.answer) × (result.number ≡ 0 → lx.new ≡ flatten f.columns) }
 {
@@ -111,8 +107,7 @@ fn fill(
     next: &mut [u32],
     x: &mut [f64],
 ) -> Factored
-    requires { Fills a.pattern.ncols a.pattern.p.now a.pattern.i.now a.v.now given.up.now given.ui.now given.lp.now given.li.now
-        lx.old next.old x.old }
+    requires { Fills (square_of a) (analysis_of given) lx.old next.old x.old }
     ensures { let n = a.entry.pattern.ncols in
         let a = square_of a.entry in
         (result ≡ (upOf a).answer) × (lx.new ≡ written (entries (upper (columns a.pattern))) (upOf a) lx.old)
