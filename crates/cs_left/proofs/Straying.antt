@@ -17,7 +17,8 @@ use Rattle.lists.proofs.Bools.{le-or-lt, and-false}
 use Rattle.lists.proofs.Members.{listed-or-not}
 use Rattle.lists.proofs.Ordering.{rises-apart, member_lists}
 use Rattle.lists.proofs.Parts.{left_at, left-none}
-use Rattle.cs_matrix.specs.Matrix.{column}
+use Rattle.cs_matrix.specs.Matrix.{pattern, column}
+use Rattle.cs_tree.specs.Pattern.{analysis}
 use Rattle.lists.proofs.Spots.{Spot, spot, member_at}
 use Rattle.cs_matrix.proofs.Pointers.{length-column, get_or-column}
 use Rattle.cs_left.specs.Steps.{stray_in, Within, Rises, Seeks}
@@ -109,9 +110,6 @@ module _ {k : ℕ} {rows held : List ℕ} {q at : ℕ} (w : Straying k rows held
   straying_end h = sym (w.rest ∙ ap (stray_in k held) (left-none rows q h))
 
 -- ---- `strays`
-abbrev pub stray_at : List ℕ → List ℕ → List ℕ → List ℕ → ℕ → Bool
-stray_at p i lp li k = stray_in k (column lp k li) (column p k i)
-
 module _ {n k a e s f : ℕ} {p i lp li : List ℕ} (v : Rises n p i × Rises n lp li) (h : k < n) (x : a ≡ get_or p k 0) (y : e ≡ get_or p (k + 1) 0)
     (z : s ≡ get_or lp k 0) (t : f ≡ get_or lp (k + 1) 0) where
   rows_are : part a e i ≡ column p k i
@@ -123,7 +121,7 @@ module _ {n k a e s f : ℕ} {p i lp li : List ℕ} (v : Rises n p i × Rises n 
   pub stray_asks : (rises (part a e i) ≡ true) × (rises (part s f li) ≡ true)
   stray_asks = (rw rows_are (v.0.rise k h), rw held_are (v.1.rise k h))
 
-  pub stray_here : {r : Bool} → r ≡ stray_in k (part s f li) (part a e i) → stray_at p i lp li k ≡ r
+  pub stray_here : {r : Bool} → r ≡ stray_in k (part s f li) (part a e i) → stray_in k (column lp k li) (column p k i) ≡ r
   stray_here g = sym (g ∙ ap (λ (l : List ℕ). stray_in k l (part a e i)) held_are ∙ ap (stray_in k (column lp k li)) rows_are)
 
 -- ---- `stray_at`: no row is a stray that is at or above the diagonal or has a place in L
@@ -135,11 +133,11 @@ none_stray k held (z ∷ rows) h =
     let rest = none_stray k held rows (λ q g. h (suc q) (omega arith)) in
     ⊎_elim (λ (g : z ≤ k). rw (le-ltb k z g) rest) (λ (m : Memᴰ z held). rw (member_lists z held m, and-false (ltb k z)) rest) (h 0 (omega arith))
 
-module _ {k : ℕ} {p i lp li next : List ℕ} (w : Seeks k p i lp li next) where
+module _ {m n k : ℕ} {p i tr up ui lp li next : List ℕ} (w : Seeks k (pattern m n p i) (analysis tr up ui lp li) next) where
   pub seeks_stored : Within k p i
   seeks_stored = w.sought.stored.each k w.here
 
-  pub seeks_both : Rises w.n p i × Rises w.n lp li
+  pub seeks_both : Rises n p i × Rises n lp li
   seeks_both = (w.sought.stored, w.sought.held)
 
   -- all rows of the column are met
@@ -151,7 +149,7 @@ module _ {k : ℕ} {p i lp li next : List ℕ} (w : Seeks k p i lp li next) wher
           let l = length-column p k i seeks_stored.inside in
           let y = get_or p k 0 + q in
           let d : get_or (column p k i) q 0 ≡ get_or i y 0 = get_or-column p k i q 0 (omega arith) in
-          let z : get_or i y 0 < w.n = w.sought.below y (omega (arith, seeks_stored.inside)) in
+          let z : get_or i y 0 < n = w.sought.below y (omega (arith, seeks_stored.inside)) in
           rw d
           (⊎_elim
           (λ (a : get_or i y 0 ≤ k). inl a)

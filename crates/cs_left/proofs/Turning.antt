@@ -24,7 +24,7 @@ use Rattle.lists.proofs.Parts.{length-placed}
 use Rattle.lists.proofs.Places.{placed-after}
 use Rattle.cs_matrix.specs.Matrix.{pattern, matrix, column}
 use Rattle.cs_matrix.proofs.Pointers.{at_most, length-column, get_or-column}
-use Rattle.cs_tree.specs.Pattern.{upper, lower, entries}
+use Rattle.cs_tree.specs.Pattern.{analysis, upper, lower, entries}
 use Rattle.cs_pattern.specs.Columns.{columns}
 use Rattle.cs_cholesky.specs.declared.Factored.{Factored}
 use Rattle.cs_cholesky.specs.Factor.{Outcome, factored}
@@ -144,8 +144,8 @@ pub record State (n : ℕ) (p i : List ℕ) (v : List Float) (lp : List ℕ) (lx
   pub next_at : (j : ℕ) → j < k → Next k (get_or (lower (columns (pattern n n p i))) j []) (get_or lp j 0) (get_or next j 0)
   pub zeros : x ≡ replicate n none
 
-pub state_start : {n : ℕ} {p i : List ℕ} {v : List Float} {up ui lp li : List ℕ} {room : ℕ} {next : List ℕ} (lx : List Float) {x : List Float} →
-    Asked n p i v up ui lp li room next x → State n p i v lp lx next lx x 0
+pub state_start : {n : ℕ} {p i : List ℕ} {v : List Float} {tr up ui lp li : List ℕ} {room : ℕ} {next : List ℕ} (lx : List Float) {x : List Float} →
+    Asked (matrix n n p i v) (analysis tr up ui lp li) room next x → State n p i v lp lx next lx x 0
 unfolding flatten entries
 state_start {n} {p} {i} {v} {lp = lp} lx a =
     record {
@@ -230,7 +230,7 @@ module _ {n : ℕ} {p i : List ℕ} {v : List Float} {up ui lp li : List ℕ} {r
               omega (arith, r, x_long, (l_row S b (q - get_or lp j 0) (omega (arith, l_size S b))).1);
         }
 
-    pub state_gathers : Gathers k p i v up ui lp li lx next (length x)
+    pub state_gathers : {tr : List ℕ} → Gathers k (matrix n n p i v) (analysis tr up ui lp li) lx next (length x)
     state_gathers =
         record {
           small = omega (arith, S.valid.pattern.cols);

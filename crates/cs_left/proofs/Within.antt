@@ -9,7 +9,8 @@ use Rattle.lists.specs.Entries.{Entries}
 use Rattle.lists.specs.Folds.{along, over}
 use Rattle.lists.specs.Parts.{part, placed}
 use Rattle.lists.proofs.Parts.{length_part}
-use Rattle.cs_matrix.specs.Matrix.{column}
+use Rattle.cs_matrix.specs.Matrix.{matrix, column}
+use Rattle.cs_tree.specs.Pattern.{analysis}
 use Rattle.cs_left.specs.Left.{put_at, quotients}
 use Rattle.cs_left.specs.Steps.{zero_at, add_held, advance, Places, Within, Crossings, Gathers, Finishes}
 
@@ -37,7 +38,8 @@ module _ {k s e m : ℕ} {lp li next : List ℕ} {lx : List Float} (w : Finishes
       )
 
 -- ---- `gather`
-module _ {k m : ℕ} {p i up ui lp li next : List ℕ} {v lx : List Float} (w : Gathers k p i v up ui lp li lx next m) where
+module _ {d k m : ℕ} {p i tr up ui lp li next : List ℕ} {v lx : List Float}
+    (w : Gathers k (matrix d d p i v) (analysis tr up ui lp li) lx next m) where
   module _ {a e : ℕ} (f : a ≡ get_or p k 0) (g : e ≡ get_or p (k + 1) 0) where
     pub gather_loads : Entries m (part a e i) (part a e v)
     gather_loads = rw (within-part w.stored f g i, within-part w.stored f g v) w.entries

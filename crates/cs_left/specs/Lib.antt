@@ -1,2 +1,3 @@
 pub mod Left
+pub mod Lent
 pub mod Steps

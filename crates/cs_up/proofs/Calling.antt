@@ -33,8 +33,8 @@ unfolding upOf
 up_ends a = factor-ends (up_step a (upper (columns a.pattern)) (lower (columns a.pattern))) a.pattern.ncols 0 []
 
 -- ---- `fill`
-module _ {n : ℕ} {p i : List ℕ} {v : List Float} {up ui lp li : List ℕ} {lx : List Float} {next : List ℕ} {x : List Float}
-    (R : Fills n p i v up ui lp li lx next x) where
+module _ {n : ℕ} {p i : List ℕ} {v : List Float} {tr up ui lp li : List ℕ} {lx : List Float} {next : List ℕ} {x : List Float}
+    (R : Fills (matrix n n p i v) (analysis tr up ui lp li) lx next x) where
   abbrev size : ℕ
   size = entries (upper (columns (pattern n n p i)))
 
@@ -129,7 +129,7 @@ module _ (nrows n : ℕ) (p i : List ℕ) (v : List Float) (tr up ui lp li : Lis
       pub small : n ≤ 65535
       small = P.served.valid.pattern.cols
 
-      pub call_fills : Fills n p i v up ui lp li lx work1.w1 work1.x
+      pub call_fills : Fills (matrix n n p i v) given lx work1.w1 work1.x
       call_fills = record {
         served = P.served;
         in_next = rw (each.0, length-cleared 0 (n + 1) w1) (omega (arith, P.wide.in_w1));

@@ -16,7 +16,7 @@ use Rattle.lists.specs.Tables.{from}
 use Rattle.lists.proofs.Pushing.{parts_laid}
 use Rattle.root.specs.Root.{root_of}
 use Rattle.cs_matrix.specs.Matrix.{pattern, matrix}
-use Rattle.cs_tree.specs.Pattern.{upper, lower, entries}
+use Rattle.cs_tree.specs.Pattern.{analysis, upper, lower, entries}
 use Rattle.cs_pattern.specs.Columns.{columns}
 use Rattle.cs_cholesky.specs.Factor.{Step, Outcome, factored, factor}
 use Rattle.cs_cholesky.specs.declared.Factored.{Factored}
@@ -43,19 +43,19 @@ held-is : (n : ℕ) (lp next : List ℕ) (lx : List Float) → held n lp next lx
 unfolding held
 held-is n lp next lx = refl
 
-pub record Factoring (n : ℕ) (p i : List ℕ) (v : List Float) (up ui lp li : List ℕ) (lx₀ : List Float) (next₀ : List ℕ) (x₀ lx : List Float)
+pub record Factoring (n : ℕ) (p i : List ℕ) (v : List Float) (tr up ui lp li : List ℕ) (lx₀ : List Float) (next₀ : List ℕ) (x₀ lx : List Float)
     (next : List ℕ) (x : List Float) (k : ℕ) : Type 0 where
   pub lx_long : length lx ≡ length lx₀
   pub next_long : length next ≡ length next₀
   pub x_long : length x ≡ length x₀
-  pub ready : Ready n p i v up ui lp li lx next x
+  pub ready : Ready (matrix n n p i v) (analysis tr up ui lp li) lx next x
   pub stands : Stands k k lp li next
   pub reached : Reached (step_of n p i v) n k (held k lp next lx)
 
-pub factoring-start : {n : ℕ} {p i : List ℕ} {v : List Float} {up ui lp li : List ℕ} {lx : List Float} {next : List ℕ} {x : List Float} →
-    Ready n p i v up ui lp li lx next x
-    → Factoring n p i v up ui lp li lx next x lx next x 0
-factoring-start {n} {p} {i} {v} {up} {ui} {lp} {li} {lx} {next} {x} r = record {
+pub factoring-start : {n : ℕ} {p i : List ℕ} {v : List Float} {tr up ui lp li : List ℕ} {lx : List Float} {next : List ℕ} {x : List Float} →
+    Ready (matrix n n p i v) (analysis tr up ui lp li) lx next x
+    → Factoring n p i v tr up ui lp li lx next x lx next x 0
+factoring-start {n} {p} {i} {v} {tr} {up} {ui} {lp} {li} {lx} {next} {x} r = record {
   lx_long = refl;
   next_long = refl;
   x_long = refl;
@@ -68,14 +68,14 @@ factoring-start {n} {p} {i} {v} {up} {ui} {lp} {li} {lx} {next} {x} r = record {
 abbrev Owed : ℕ → List ℕ → List ℕ → List Float → Factored → List Float → Type 0
 Owed n p i v r lx = (r ≡ (upOf (matrix n n p i v)).answer) × (r.number ≡ 0 → lx ≡ flatten (upOf (matrix n n p i v)).columns)
 
-module _ {n : ℕ} {p i : List ℕ} {v : List Float} {up ui lp li : List ℕ} {lx₀ : List Float} {next₀ : List ℕ} {x₀ lx : List Float} {next : List ℕ}
+module _ {n : ℕ} {p i : List ℕ} {v : List Float} {tr up ui lp li : List ℕ} {lx₀ : List Float} {next₀ : List ℕ} {x₀ lx : List Float} {next : List ℕ}
     {x : List Float} {k : ℕ}
-    (w : Factoring n p i v up ui lp li lx₀ next₀ x₀ lx next x k) where
-  abbrev R : Ready n p i v up ui lp li lx next x
+    (w : Factoring n p i v tr up ui lp li lx₀ next₀ x₀ lx next x k) where
+  abbrev R : Ready (matrix n n p i v) (analysis tr up ui lp li) lx next x
   R = w.ready
 
   module _ (h : k < n) where
-    module _ {lx1 : List Float} {next1 : List ℕ} {x1 : List Float} {pivot : Float} (g : Gone k p i v up ui lp li lx next x lx1 next1 x1 pivot) where
+    module _ {lx1 : List Float} {next1 : List ℕ} {x1 : List Float} {pivot : Float} (g : Gone k (matrix n n p i v) (analysis tr up ui lp li) lx next x lx1 next1 x1 pivot) where
       pub factoring_stop : not (lt none pivot) ≡ true → Owed n p i v (factored 11 k pivot) lx1
       factoring_stop t =
           let e = factor-is n p i v ∙ reached_stop (step_of n p i v) w.reached h (pivot_is R h g) (not-true (lt none pivot) t) in
@@ -87,7 +87,7 @@ module _ {n : ℕ} {p i : List ℕ} {v : List Float} {up ui lp li : List ℕ} {l
       pub factoring-turn : {lx2 : List Float} {next2 : List ℕ} → not (lt none pivot) ≡ false → length lx1 ≡ length lx → length next1 ≡ length next →
           length x1 ≡ length x
           → (lx2 ≡ set lx1 (get_or lp k 0) (root_of pivot)) × (next2 ≡ set next1 k (get_or lp k 0 + 1)) →
-          Factoring n p i v up ui lp li lx₀ next₀ x₀ lx2 next2 x1 (k + 1)
+          Factoring n p i v tr up ui lp li lx₀ next₀ x₀ lx2 next2 x1 (k + 1)
       factoring-turn t l m o c =
           let b : lt none pivot ≡ true = not-false (lt none pivot) t in
           rw (c.0, c.1)

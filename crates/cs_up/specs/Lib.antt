@@ -1,2 +1,3 @@
-pub mod Up
+pub mod Lent
 pub mod Steps
+pub mod Up

@@ -11,8 +11,8 @@ pub gather-pivot-requires : goal.gather-pivot-requires
 gather-pivot-requires c = state_gathers c.requires.served c.requires.none_stray refl c.loop-k.invariant c.loop-k-test.true
 
 pub returns-then-not-pivot : goal.returns-then-not-pivot
-returns-then-not-pivot c = state_stop c.requires.served c.requires.none_stray refl c.loop-k.invariant c.loop-k-test.true c.gather-pivot.auto.x
-    c.gather-pivot.ensures (not-true _ c.if-not-pivot.true-raw)
+returns-then-not-pivot c = rw c.number.ensures (state_stop c.requires.served c.requires.none_stray refl c.loop-k.invariant c.loop-k-test.true
+    c.gather-pivot.auto.x c.gather-pivot.ensures (not-true _ c.if-not-pivot.true-raw))
 
 pub finish-requires : goal.finish-requires
 finish-requires c = state_finishes c.requires.served c.requires.none_stray refl c.loop-k.invariant c.loop-k-test.true c.gather-pivot.auto.x
@@ -23,4 +23,4 @@ loop-k-preserved c = state_turn c.requires.served c.requires.none_stray refl c.l
     c.gather-pivot.ensures (not-false _ c.if-not-pivot.false-raw) c.root.ensures.0 c.finish.ensures
 
 pub returns : goal.returns
-returns c = state_end c.requires.served c.requires.none_stray refl c.loop-k.invariant c.loop-k-test.false c.refused.ensures
+returns c = state_end c.requires.served c.requires.none_stray refl c.loop-k.invariant c.loop-k-test.false refl

@@ -11,8 +11,8 @@ pub returns-then-wide-e : goal.returns-then-wide-e
 returns-then-wide-e c = seeks_none c.requires c.wide.ensures.0 c.wide-e.ensures.0 c.if-wide-e.true
 
 pub stray-requires : goal.stray-requires
-stray-requires c = stray_asks (seeks_both c.requires) c.requires.here c.wide-a.ensures.0 c.wide-e.ensures.0 c.wide-s.ensures.0 c.wide-f.ensures.0
+stray-requires c = stray_asks (seeks_both c.requires) c.requires.here c.wide-s.ensures.0 c.wide-e.ensures.0 c.wide-b.ensures.0 c.wide-f.ensures.0
 
 pub returns : goal.returns
-returns c = sym (stray_here (seeks_both c.requires) c.requires.here c.wide-a.ensures.0 c.wide-e.ensures.0 c.wide-s.ensures.0 c.wide-f.ensures.0
+returns c = sym (stray_here (seeks_both c.requires) c.requires.here c.wide-s.ensures.0 c.wide-e.ensures.0 c.wide-b.ensures.0 c.wide-f.ensures.0
     c.stray.ensures)

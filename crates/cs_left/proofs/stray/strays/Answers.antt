@@ -9,6 +9,6 @@ use Rattle.cs_left.proofs.stray.strays.Goals as goal
 pub returns : goal.returns
 returns c = (
   c.seek-found.ensures,
-  c.clear.ensures ∙ cleared-after 0 c.args.n (c.args.n + 1) c.args.w.now c.seek-found.new.next (omega arith)
-      c.requires.1 (c.seek-found.auto.next ∙ part_long c.args.n c.args.w.now c.requires.1),
+  c.fill.ensures ∙ cleared-after 0 c.args.a.ncols (c.args.a.ncols + 1) c.args.w.now c.seek-found.new.next (omega arith)
+      c.requires.1 (c.seek-found.auto.next ∙ part_long c.args.a.ncols c.args.w.now c.requires.1),
 )
