@@ -7,7 +7,7 @@ ghost use Rattle.lists.specs.Tables.{table};
 ghost use Rattle.lists.specs.Keeping.{Zeros};
 ghost use Rattle.cs_conversion.specs.InOrder.{Climbing, Placed, Ends, Raised};
 
-use lists::clear::clear;
+use lists::clear::fill;
 use lists::numbers::wide;
 
 // The place behind each column's last triplet, into p one place behind the column's own.
@@ -46,6 +46,6 @@ pub fn pointers(ncols: usize, cols: &[u32], p: &mut [u32])
     ensures { p.new ≡ onto p.old (table (ncols + 1) (λ c. length (by_key c cols.now cols.now))) }
 {
     let m = ncols + 1;
-    clear(m, p);
+    fill(0, m, p);
     starts(cols, &mut p[..m]);
 }

@@ -2,33 +2,40 @@
 ghost use Rattle.std.specs.Prelude.{◌≡◌};
 ghost use Rattle.lists.specs.Calls.{lowest};
 ghost use Rattle.lists.specs.Choices.{first_or, last_or};
-ghost use Rattle.cs_matrix.specs.Matrix.{matrix, Valid};
+ghost use Rattle.lists.specs.Refusals.{numbered};
+ghost use Rattle.cs_matrix.specs.Lent.{matrix_of};
+ghost use Rattle.cs_matrix.specs.Matrix.{Valid};
 ghost use Rattle.cs_solve.specs.Judge.{judged_solve, lacking_columns, Names};
 
 use crate::diagonal::value_at;
 use cs_matrix::check::check;
-use lists::numbers::{lower, wide};
+use cs_matrix::matrix::{Matrix, Pattern};
+use lists::numbers::wide;
+use lists::refusal::{Refusal, lower};
 
-// The lowest of 1 to 5 that applies where the right side has m elements, else 0.
-pub fn judge(nrows: usize, ncols: usize, p: &[u32], i: &[u32], v: &[f64], m: usize) -> u32
-    ensures { result ≡ lowest (judged_solve (matrix nrows ncols p.now i.now v.now) m) }
+// What refuses a matrix with a right side of m elements first: 1 to 5, or nothing.
+pub fn judge(a: Matrix<'_>, m: usize) -> Result<(), Refusal>
+    ensures { numbered result ≡ lowest (judged_solve (matrix_of a.entry) m) }
 {
-    let refused = check(nrows, ncols, p, i, v);
+    let Pattern { nrows, ncols, .. } = a.pattern;
+    let refused = check(a);
     if nrows != ncols || m != ncols {
-        return lower(refused, 2);
+        return lower(refused, Err(Refusal::Disagree));
     }
     refused
 }
 
 // The lowest column whose diagonal is absent or zero.
-pub fn first_lacking(n: usize, p: &[u32], i: &[u32], v: &[f64]) -> Option<usize>
-    requires { Valid (matrix n n p.now i.now v.now) }
-    ensures { let l = lacking_columns (matrix n n p.now i.now v.now) in Names n l (first_or 0 l) result }
+pub fn first_lacking(a: Matrix<'_>) -> Option<usize>
+    requires { Valid (matrix_of a) }
+    ensures { let a = matrix_of a.entry in let l = lacking_columns a in Names a.pattern.ncols l (first_or 0 l) result }
 {
-    for j in 0..n {
-        let a = wide(p[j]);
+    let Matrix { pattern, v } = a;
+    let Pattern { ncols, p, i, .. } = pattern;
+    for j in 0..ncols {
+        let s = wide(p[j]);
         let e = wide(p[j + 1]);
-        if value_at(j, &i[a..e], &v[a..e]) == 0.0 {
+        if value_at(j, &i[s..e], &v[s..e]) == 0.0 {
             return Some(j);
         }
     }
@@ -36,14 +43,16 @@ pub fn first_lacking(n: usize, p: &[u32], i: &[u32], v: &[f64]) -> Option<usize>
 }
 
 // The highest column whose diagonal is absent or zero.
-pub fn last_lacking(n: usize, p: &[u32], i: &[u32], v: &[f64]) -> Option<usize>
-    requires { Valid (matrix n n p.now i.now v.now) }
-    ensures { let l = lacking_columns (matrix n n p.now i.now v.now) in Names n l (last_or 0 l) result }
+pub fn last_lacking(a: Matrix<'_>) -> Option<usize>
+    requires { Valid (matrix_of a) }
+    ensures { let a = matrix_of a.entry in let l = lacking_columns a in Names a.pattern.ncols l (last_or 0 l) result }
 {
-    for j in (0..n).rev() {
-        let a = wide(p[j]);
+    let Matrix { pattern, v } = a;
+    let Pattern { ncols, p, i, .. } = pattern;
+    for j in (0..ncols).rev() {
+        let s = wide(p[j]);
         let e = wide(p[j + 1]);
-        if value_at(j, &i[a..e], &v[a..e]) == 0.0 {
+        if value_at(j, &i[s..e], &v[s..e]) == 0.0 {
             return Some(j);
         }
     }

@@ -7,14 +7,15 @@ ghost use Rattle.lists.specs.Choices.{first_or};
 ghost use Rattle.lists.specs.Folds.{over};
 ghost use Rattle.lists.specs.Order.{rises};
 ghost use Rattle.lists.specs.Runs.{zipped};
-ghost use Rattle.cs_matrix.specs.Matrix.{matrix, Valid};
-ghost use Rattle.cs_solve.specs.Judge.{number, answer, lacking_columns};
+ghost use Rattle.cs_matrix.specs.Lent.{matrix_of};
+ghost use Rattle.cs_solve.specs.Judge.{number, answer, lacking_columns, Passed};
 ghost use Rattle.cs_solve.specs.Solve.{lower_at, forward_at, forward as forwardOf};
 ghost use Rattle.cs_solve.specs.TrSolve.{Column};
 
 use crate::Solved;
 use crate::diagonal::value_at;
 use crate::judge::{first_lacking, judge};
+use cs_matrix::matrix::{Matrix, Pattern};
 use lists::numbers::wide;
 use lists::tight::tight;
 
@@ -76,49 +77,34 @@ fn forward_column(j: usize, d: f64, rows: &[u32], vals: &[f64], b: &mut [f64])
 }
 
 // All columns, rising.
-fn forward(n: usize, p: &[u32], i: &[u32], v: &[f64], b: &mut [f64])
-    requires { Valid (matrix n n p.now i.now v.now) × (length b.old ≡ n) }
-    ensures { b.new ≡ forwardOf (matrix n n p.now i.now v.now) b.old }
+fn forward(a: Matrix<'_>, b: &mut [f64])
+    requires { Passed (matrix_of a) (length b.old) }
+    ensures { b.new ≡ forwardOf (matrix_of a.entry) b.old }
 {
-    for j in 0..n {
-        let a = wide(p[j]);
+    let Matrix { pattern, v } = a;
+    let Pattern { ncols, p, i, .. } = pattern;
+    for j in 0..ncols {
+        let s = wide(p[j]);
         let e = wide(p[j + 1]);
-        let rows = &i[a..e];
-        let vals = &v[a..e];
+        let rows = &i[s..e];
+        let vals = &v[s..e];
         let d = value_at(j, rows, vals);
         forward_column(j, d, rows, vals, b);
     }
 }
 
 // Solves with the lower triangle of a matrix, the right side b in place.
-pub fn solve_lower_triangular(
-    nrows: usize,
-    ncols: usize,
-    p: &[u32],
-    i: &[u32],
-    v: &[f64],
-    b: &mut [f64],
-) -> Solved
-    ensures { let a = matrix nrows ncols p.now i.now v.now in
+pub fn solve_lower_triangular(a: Matrix<'_>, b: &mut [f64]) -> Solved
+    ensures { let a = matrix_of a.entry in
         let old = b.old in
         (result ≡ answer (number a old) (first_or 0 (lacking_columns a))) × (b.new ≡ outputs (number a old) (forwardOf a old) old) }
 {
-    let refused = judge(nrows, ncols, p, i, v, b.len());
-    if refused != 0 {
-        return Solved {
-            number: refused,
-            column: 0,
-        };
+    if let Err(refusal) = judge(a, b.len()) {
+        return Solved::refused(refusal);
     }
-    if let Some(column) = first_lacking(ncols, p, i, v) {
-        return Solved {
-            number: 10,
-            column: column as u32,
-        };
+    if let Some(column) = first_lacking(a) {
+        return Solved::lacking(column as u32);
     }
-    forward(ncols, p, i, v, b);
-    Solved {
-        number: 0,
-        column: 0,
-    }
+    forward(a, b);
+    Solved::DONE
 }

@@ -1,12 +1,14 @@
 // The reached set, as marks: one rising pass over them gives the least set, in order, and looks at its diagonals.
 ghost use Rattle.std.specs.Prelude.{◌≡◌, length, replicate};
 ghost use Rattle.lists.specs.Choices.{first_or, keep};
-ghost use Rattle.cs_matrix.specs.Matrix.{matrix, pattern, Valid};
+ghost use Rattle.cs_matrix.specs.Lent.{matrix_of};
+ghost use Rattle.cs_matrix.specs.Matrix.{Valid};
 ghost use Rattle.cs_solve.specs.Diagonal.{lacking};
 ghost use Rattle.cs_solve.specs.Judge.{Names};
 ghost use Rattle.cs_solve_cs.specs.Reach.{reached};
 ghost use Rattle.cs_solve_cs.specs.Steps.{mark_all, marks};
 
+use cs_matrix::matrix::{Matrix, Pattern};
 use cs_solve::diagonal::value_at;
 use lists::numbers::wide;
 
@@ -30,22 +32,25 @@ pub struct Swept {
 }
 
 // Marks what the right side's rows reach, counts it, and looks at its diagonals.
-pub fn reach(n: usize, p: &[u32], i: &[u32], v: &[f64], bi: &[u32], w: &mut [u32]) -> Swept
-    requires { Valid (matrix n n p.now i.now v.now) × (w.old ≡ replicate n 0) }
-    ensures { let l = reached (pattern n n p.now i.now) bi.now in
-        let bad = keep (lacking (matrix n n p.now i.now v.now)) l in
-        (marks n w.new ≡ l) × (result.count ≡ length l) × Names n bad (first_or 0 bad) result.lacking }
+pub fn reach(a: Matrix<'_>, bi: &[u32], w: &mut [u32]) -> Swept
+    requires { Valid (matrix_of a) × (w.old ≡ replicate a.pattern.ncols 0) }
+    ensures { let a = matrix_of a.entry in
+        let l = reached a.pattern bi.now in
+        let bad = keep (lacking a) l in
+        (marks a.pattern.ncols w.new ≡ l) × (result.count ≡ length l) × Names a.pattern.ncols bad (first_or 0 bad) result.lacking }
 {
+    let Matrix { pattern, v } = a;
+    let Pattern { ncols, p, i, .. } = pattern;
     mark(0, bi, w);
     let mut count = 0;
     let mut lacking = None;
-    for j in 0..n {
+    for j in 0..ncols {
         if w[j] != 0 {
             count += 1;
-            let a = wide(p[j]);
+            let s = wide(p[j]);
             let e = wide(p[j + 1]);
-            let rows = &i[a..e];
-            if lacking.is_none() && value_at(j, rows, &v[a..e]) == 0.0 {
+            let rows = &i[s..e];
+            if lacking.is_none() && value_at(j, rows, &v[s..e]) == 0.0 {
                 lacking = Some(j);
             }
             mark(j + 1, rows, w);

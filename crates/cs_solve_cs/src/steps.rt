@@ -3,11 +3,13 @@ ghost use Rattle.std.specs.Prelude.{◌≡◌, ◌+◌, ◌<◌, map, length, ge
 ghost use Rattle.std.specs.Float.{nan};
 ghost use Rattle.lists.specs.Calls.{onto};
 ghost use Rattle.lists.specs.Folds.{along, over};
-ghost use Rattle.cs_matrix.specs.Matrix.{matrix, Valid};
+ghost use Rattle.cs_matrix.specs.Lent.{matrix_of};
+ghost use Rattle.cs_matrix.specs.Matrix.{Valid};
 ghost use Rattle.cs_solve.specs.Solve.{forward_column};
 ghost use Rattle.cs_solve_cs.specs.SolveCs.{put_at};
 ghost use Rattle.cs_solve_cs.specs.Steps.{marks, Room};
 
+use cs_matrix::matrix::{Matrix, Pattern};
 use cs_solve::diagonal::value_at;
 use cs_solve::solve::forward_at;
 use lists::numbers::wide;
@@ -35,28 +37,22 @@ fn push(row: usize, value: f64, at: usize, xi: &mut [u32], xv: &mut [f64]) -> us
 }
 
 // The forward steps over the marked columns, rising. No later column changes the value of this one, so that each is written at once.
-pub fn forward(
-    n: usize,
-    p: &[u32],
-    i: &[u32],
-    v: &[f64],
-    w: &[u32],
-    x: &mut [f64],
-    xi: &mut [u32],
-    xv: &mut [f64],
-)
-    requires { Valid (matrix n n p.now i.now v.now) × Room n w.now x.old xi.old xv.old }
-    ensures { let l = marks n w.now in
-        let y = along (forward_column (matrix n n p.now i.now v.now)) l x.old in
+pub fn forward(a: Matrix<'_>, w: &[u32], x: &mut [f64], xi: &mut [u32], xv: &mut [f64])
+    requires { Valid (matrix_of a) × Room a.pattern.ncols w.now x.old xi.old xv.old }
+    ensures { let a = matrix_of a.entry in
+        let l = marks a.pattern.ncols w.now in
+        let y = along (forward_column a) l x.old in
         (xi.new ≡ onto xi.old l) × (xv.new ≡ onto xv.old (map (λ j. get_or y j nan) l)) }
 {
+    let Matrix { pattern, v } = a;
+    let Pattern { ncols, p, i, .. } = pattern;
     let mut at = 0;
-    for j in 0..n {
+    for j in 0..ncols {
         if w[j] != 0 {
-            let a = wide(p[j]);
+            let s = wide(p[j]);
             let e = wide(p[j + 1]);
-            let rows = &i[a..e];
-            let vals = &v[a..e];
+            let rows = &i[s..e];
+            let vals = &v[s..e];
             let d = value_at(j, rows, vals);
             forward_at(j, d, rows, vals, x);
             at = push(j, x[j], at, xi, xv);

@@ -14,10 +14,10 @@ overflow_add-count c = let h = count_small c.loop-j.invariant c.loop-j-test.true
     record { fits = omega (arith, j_small c.loop-j.invariant.valid c.loop-j-test.true) }
 
 pub slice_bounds-rows-end : goal.slice_bounds-rows-end
-slice_bounds-rows-end c = (handed c.loop-j.invariant.valid c.loop-j-test.true c.wide-a.ensures.0 c.wide-e.ensures.0).inside
+slice_bounds-rows-end c = (handed c.loop-j.invariant.valid c.loop-j-test.true c.wide-s.ensures.0 c.wide-e.ensures.0).inside
 
 pub slice_bounds-value_at-end : goal.slice_bounds-value_at-end
-slice_bounds-value_at-end c = (handed c.loop-j.invariant.valid c.loop-j-test.true c.wide-a.ensures.0 c.wide-e.ensures.0).inside_v
+slice_bounds-value_at-end c = (handed c.loop-j.invariant.valid c.loop-j-test.true c.wide-s.ensures.0 c.wide-e.ensures.0).inside_v
 
 pub loop-j-preserved : goal.loop-j-preserved
 loop-j-preserved c =
@@ -25,7 +25,7 @@ loop-j-preserved c =
     let h = c.loop-j-test.true in
     elim c.if-w-j-ne0.branch [
       | then-w-j-ne0 t ↦
-          let b = handed r.valid h t.wide-a.ensures.0 t.wide-e.ensures.0 in
+          let b = handed r.valid h t.wide-s.ensures.0 t.wide-e.ensures.0 in
           rw (t.w-is, t.count-is, t.lacking-is)
           (reaching_on r h t.if-w-j-ne0.true b
           (elim t.if-is_none.branch [
