@@ -59,14 +59,6 @@ passed a b differ e h =
 
 -- ---- 7
 module _ (n k p i v : ℕ) where
-  pub over-short : 4194304 < k → true ≡ short_for n k p i v
-  unfolding short_for
-  over-short h = rw (lt-ltb 4194304 k h)
-
-  pub rest-short : k ≤ 4194304 → {t : Bool} → t ≡ short_by n k p i v → t ≡ short_for n k p i v
-  unfolding short_for
-  rest-short h e = rw (le-ltb 4194304 k h) e
-
   pub record Roomy : Type 0 where
     pub few : k ≤ 4194304
     pub in_p : n + 1 ≤ p

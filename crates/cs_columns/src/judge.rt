@@ -24,11 +24,9 @@ pub fn check_two(a: Matrix<'_>, b: Matrix<'_>, differ: bool) -> Result<(), Refus
 }
 
 // The entries are over 4,194,304, or an output is shorter than they need.
+#[tactic(auto, unfolding(crate::specs::Columns::short_for))]
 pub fn no_room(ncols: usize, entries: usize, plen: usize, ilen: usize, vlen: usize) -> bool
     ensures { result ≡ short_for ncols entries plen ilen vlen }
 {
-    if entries > 4194304 {
-        return true;
-    }
-    too_short(ncols, entries, plen, ilen, vlen)
+    entries > 4194304 || too_short(ncols, entries, plen, ilen, vlen)
 }

@@ -5,5 +5,5 @@ ghost use Rattle.std.specs.Prelude.{◌≡◌, get_or};
 pub fn row_at(rows: &[u32], k: usize) -> u32
     ensures { result ≡ get_or rows.now k 4294967295 }
 {
-    if k < rows.len() { rows[k] } else { 4294967295 }
+    rows.get(k).copied().unwrap_or(u32::MAX)
 }

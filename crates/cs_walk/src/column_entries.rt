@@ -42,40 +42,40 @@ pub fn check_parts(i: &[u32], v: &[f64]) -> u32
 fn entry_there(curr: usize, i: &[u32], v: &[f64]) -> bool
     ensures { result ≡ some (left curr i.now v.now) }
 {
-    if check_parts(i, v) != 0 {
-        return false;
-    }
-    curr < i.len()
+    check_parts(i, v) == 0 && curr < i.len()
 }
 
 // The entry at a position, or the end.
 fn entry_at(curr: usize, i: &[u32], v: &[f64]) -> Entry
     ensures { result ≡ first (left curr i.now v.now) }
 {
-    if !entry_there(curr, i, v) {
-        return Entry::End;
+    if entry_there(curr, i, v) {
+        Entry::Pair(i[curr], v[curr])
+    } else {
+        Entry::End
     }
-    Entry::Pair(i[curr], v[curr])
 }
 
 // The position behind it.
 fn curr_after(curr: usize, i: &[u32], v: &[f64]) -> usize
     ensures { result ≡ after curr i.now v.now }
 {
-    if !entry_there(curr, i, v) {
-        return curr;
+    if entry_there(curr, i, v) {
+        curr + 1
+    } else {
+        curr
     }
-    curr + 1
 }
 
 // How many entries are left from a position.
 fn left_at(curr: usize, i: &[u32], v: &[f64]) -> usize
     ensures { result ≡ length (left curr i.now v.now) }
 {
-    if !entry_there(curr, i, v) {
-        return 0;
+    if entry_there(curr, i, v) {
+        i.len() - curr
+    } else {
+        0
     }
-    i.len() - curr
 }
 
 impl<'a, 'b> ColumnEntries<'a, 'b> {
