@@ -1,13 +1,14 @@
 // The calls by their numbers, each on the slices of a case.
 use crate::case::{Case, Element, Head};
 use cs_cholesky::Factored;
-use cs_conversion::assembly::from_triplet;
+use cs_conversion::assembly::{Triplets, from_triplet};
 use cs_left::left::decompose_left_looking;
 use cs_matrix::check::{check, check_pattern, check_vector};
+use cs_matrix::matrix::{Matrix, Pattern, Vector};
 use cs_ops::axpy::axpy_cs;
 use cs_ops::scale::scale;
 use cs_pattern::analyse::analyse;
-use cs_pattern::compare::compare;
+use cs_pattern::compare::{Analysis, compare};
 use cs_product::product::product;
 use cs_solve::Solved;
 use cs_solve::solve::solve_lower_triangular;
@@ -16,7 +17,8 @@ use cs_solve_cs::solve_cs::solve_lower_triangular_cs;
 use cs_sum::sum::sum;
 use cs_transpose::transpose::transpose;
 use cs_up::up::decompose_up_looking;
-use cs_walk::column_entries::{Entry, next_entry};
+use cs_walk::column_entries::next_entry;
+use lists::refusal::{Refusal, number};
 use lists::sums::cumsum;
 use std::io;
 use std::io::Read;
@@ -35,8 +37,11 @@ const DONE: Answer = Answer {
     pivot: 0.0,
 };
 
-fn only(number: u32) -> Answer {
-    Answer { number, ..DONE }
+fn only(answer: Result<(), Refusal>) -> Answer {
+    Answer {
+        number: number(answer),
+        ..DONE
+    }
 }
 
 fn solved(s: Solved) -> Answer {
@@ -55,6 +60,17 @@ fn factored(f: Factored) -> Answer {
     }
 }
 
+fn pattern<'a>(nrows: usize, ncols: usize, p: &'a [u32], i: &'a [u32]) -> Pattern<'a> {
+    Pattern { nrows, ncols, p, i }
+}
+
+fn matrix<'a>(nrows: usize, ncols: usize, p: &'a [u32], i: &'a [u32], v: &'a [f64]) -> Matrix<'a> {
+    Matrix {
+        pattern: pattern(nrows, ncols, p, i),
+        v,
+    }
+}
+
 // An element that is not there is 0.
 fn value(slice: &[f64], k: usize) -> f64 {
     if k < slice.len() { slice[k] } else { 0.0 }
@@ -66,12 +82,9 @@ fn walk(curr: usize, i: &[u32], v: &[f64], out: &mut [u32]) -> Answer {
     for (word, n) in out.iter_mut().zip([step.curr, step.left]) {
         *word = (n % 4294967296) as u32;
     }
-    let (column, pivot) = match step.entry {
-        Entry::Pair(row, value) => (row, value),
-        Entry::End => (u32::MAX, 0.0),
-    };
+    let (column, pivot) = step.entry.unwrap_or((u32::MAX, 0.0));
     Answer {
-        number: step.number,
+        number: number(step.answer),
         column,
         pivot,
     }
@@ -87,19 +100,19 @@ fn plain(h: &Head, case: &mut Case) -> Answer {
         x,
         ..
     } = case;
-    let (m, n) = (h.m, h.n);
+    let n = h.n;
     match h.call {
         0 => Answer {
             pivot: root::root(value(x, 0)),
             ..DONE
         },
-        1 => only(check(m, n, s0, s1, v)),
-        2 => only(check_pattern(m, n, s0, s1)),
-        3 => only(check_vector(n, s1, v)),
-        4 => only(scale(m, n, s0, s1, v, value(x, 0))),
-        5 => only(axpy_cs(n, value(x, 0), s1, v, value(x, 1), b)),
-        6 => solved(solve_lower_triangular(m, n, s0, s1, v, b)),
-        7 => solved(tr_solve_lower_triangular(m, n, s0, s1, v, b)),
+        1 => only(check(matrix(h.m, n, s0, s1, v))),
+        2 => only(check_pattern(pattern(h.m, n, s0, s1))),
+        3 => only(check_vector(Vector { n, i: s1, v })),
+        4 => only(scale(pattern(h.m, n, s0, s1), v, value(x, 0))),
+        5 => only(axpy_cs(value(x, 0), Vector { n, i: s1, v }, value(x, 1), b)),
+        6 => solved(solve_lower_triangular(matrix(h.m, n, s0, s1, v), b)),
+        7 => solved(tr_solve_lower_triangular(matrix(h.m, n, s0, s1, v), b)),
         8 => Answer {
             column: cumsum(s0, s1),
             ..DONE
@@ -126,13 +139,23 @@ fn built(h: &Head, case: &mut Case) -> Answer {
         x,
         ..
     } = case;
-    let (m, n, d, e) = (h.m, h.n, h.d, h.e);
+    let a = matrix(h.m, h.n, s0, s1, v);
+    let other = matrix(h.d, h.e, s2, s3, b);
     match h.call {
-        10 => only(transpose(m, n, s0, s1, v, s4, s5, o, w1, w2, w3, x)),
-        11 => only(from_triplet(m, n, s0, s1, v, s4, s5, o, w1, w2, w3, x)),
-        13 => only(product(m, n, s0, s1, v, d, e, s2, s3, b, s4, s5, o, w1, w2, w3, x)),
-        14 => only(sum(m, n, s0, s1, v, d, e, s2, s3, b, s4, s5, o)),
-        _ => solved(solve_lower_triangular_cs(m, n, s0, s1, v, s2, b, s5, o, w1, w2, w3, x)),
+        10 => only(transpose(a, s4, s5, o, w1, w2, w3, x)),
+        11 => {
+            let t = Triplets {
+                nrows: h.m,
+                ncols: h.n,
+                irows: s0,
+                icols: s1,
+                vals: v,
+            };
+            only(from_triplet(t, s4, s5, o, w1, w2, w3, x))
+        }
+        13 => only(product(a, other, s4, s5, o, w1, w2, w3, x)),
+        14 => only(sum(a, other, s4, s5, o)),
+        _ => solved(solve_lower_triangular_cs(a, s2, b, s5, o, w1, w2, w3, x)),
     }
 }
 
@@ -154,14 +177,21 @@ fn analysed(h: &Head, case: &mut Case) -> Answer {
         x,
         ..
     } = case;
-    let (m, n) = (h.m, h.n);
+    let a = matrix(h.m, h.n, s0, s1, v);
+    if h.call == 16 {
+        return only(analyse(a.pattern, s2, s3, s4, s5, s6, w1, w2, w3, x));
+    }
+    let given = Analysis {
+        tree: s2,
+        up: s3,
+        ui: s4,
+        lp: s5,
+        li: s6,
+    };
     match h.call {
-        16 => only(analyse(m, n, s0, s1, s2, s3, s4, s5, s6, w1, w2, w3, x)),
-        17 => only(compare(m, n, s0, s1, h.d, s2, s3, s4, s5, s6, w1, w2, w3, x)),
-        18 => factored(decompose_left_looking(
-            m, n, s0, s1, v, s2, s3, s4, s5, s6, o, w1, w2, w3, x,
-        )),
-        _ => factored(decompose_up_looking(m, n, s0, s1, v, s2, s3, s4, s5, s6, o, w1, w2, w3, x)),
+        17 => only(compare(a.pattern, h.d, given, w1, w2, w3, x)),
+        18 => factored(decompose_left_looking(a, given, o, w1, w2, w3, x)),
+        _ => factored(decompose_up_looking(a, given, o, w1, w2, w3, x)),
     }
 }
 

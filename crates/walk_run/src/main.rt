@@ -3,9 +3,10 @@
 // A write that fails ends the program with its error.
 #![tactic(auto)]
 
-use cs_walk::column_entries::{Entry, check_parts, next_entry};
+use cs_walk::column_entries::{check_parts, next_entry};
 use float_bits::bits_of;
 use lists::numbers::wide;
+use lists::refusal;
 use std::io;
 
 fn text(rt: &impl Print, s: &str) -> io::Result<()> {
@@ -21,20 +22,18 @@ fn value(rt: &impl Print, x: f64) -> io::Result<()> {
     print!(rt; " {bits:016x}")
 }
 
-fn show(rt: &impl Print, e: Entry) -> io::Result<()> {
-    match e {
-        Entry::Pair(row, x) => {
-            number(rt, wide(row))?;
-            value(rt, x)
-        }
-        Entry::End => text(rt, " end"),
-    }
+fn show(rt: &impl Print, entry: Option<(u32, f64)>) -> io::Result<()> {
+    let Some((row, x)) = entry else {
+        return text(rt, " end");
+    };
+    number(rt, wide(row))?;
+    value(rt, x)
 }
 
 // One call from a position: what it tells, and the position behind.
 fn call(rt: &impl Print, curr: usize, i: &[u32], v: &[f64]) -> io::Result<usize> {
     let s = next_entry(curr, i, v);
-    number(rt, wide(s.number))?;
+    number(rt, wide(refusal::number(s.answer)))?;
     show(rt, s.entry)?;
     number(rt, s.curr)?;
     number(rt, s.left)?;
@@ -52,7 +51,7 @@ fn walk(
     calls: usize,
 ) -> io::Result<()> {
     text(rt, name)?;
-    number(rt, wide(check_parts(i, v)))?;
+    number(rt, wide(refusal::number(check_parts(i, v))))?;
     text(rt, "\n")?;
     let mut curr = from;
     for _ in 0..calls {
