@@ -1,30 +1,30 @@
 -- `count`: the loop of proofs/Summed.antt. Assumes nothing.
 use native.Mathlib.Omega.{arith}
-use Rattle.cs_sum.proofs.Summed.{tallying_start, tallying_small, tallying_turn, tallying_done, handed, risen}
+use Rattle.cs_sum.proofs.Summed.{tallying_start, tallying_small, tallying_turn, handed, risen}
 use Rattle.cs_sum.proofs.sum.count.Goals as goal
 
 pub loop-j-init : goal.loop-j-init
-loop-j-init c = tallying_start _ _ _ _ _ _ _ _ c.requires
+loop-j-init c = tallying_start _ _ c.requires
 
 pub slice_bounds-count_rows-end : goal.slice_bounds-count_rows-end
-slice_bounds-count_rows-end c = (handed _ _ _ _ _ _ _ _ c.loop-j.invariant.ask c.loop-j-test.true c.wide-a.ensures.0 c.wide-e.ensures.0
-    c.wide-c.ensures.0 c.wide-d.ensures.0).first.inside
+slice_bounds-count_rows-end c = (handed _ _ c.loop-j.invariant.ask c.loop-j-test.true c.wide-a_start.ensures.0 c.wide-a_end.ensures.0
+    c.wide-b_start.ensures.0 c.wide-b_end.ensures.0).first.inside
 
 pub slice_bounds-count_rows-end-in-loop-j : goal.slice_bounds-count_rows-end-in-loop-j
 slice_bounds-count_rows-end-in-loop-j c =
-    (handed _ _ _ _ _ _ _ _ c.loop-j.invariant.ask c.loop-j-test.true c.wide-a.ensures.0 c.wide-e.ensures.0 c.wide-c.ensures.0
-    c.wide-d.ensures.0).second.inside
+    (handed _ _ c.loop-j.invariant.ask c.loop-j-test.true c.wide-a_start.ensures.0 c.wide-a_end.ensures.0 c.wide-b_start.ensures.0
+    c.wide-b_end.ensures.0).second.inside
 
 pub count_rows-places-requires : goal.count_rows-places-requires
-count_rows-places-requires c = risen _ _ _ _ _ _ _ _ c.loop-j.invariant.ask c.loop-j-test.true
-    (handed _ _ _ _ _ _ _ _ c.loop-j.invariant.ask c.loop-j-test.true c.wide-a.ensures.0 c.wide-e.ensures.0 c.wide-c.ensures.0 c.wide-d.ensures.0)
+count_rows-places-requires c = risen _ _ c.loop-j.invariant.ask c.loop-j-test.true
+    (handed _ _ c.loop-j.invariant.ask c.loop-j-test.true c.wide-a_start.ensures.0 c.wide-a_end.ensures.0 c.wide-b_start.ensures.0 c.wide-b_end.ensures.0)
 
 pub overflow_add-places : goal.overflow_add-places
-overflow_add-places c = let h = tallying_small _ _ _ _ _ _ _ _ c.loop-j.invariant c.loop-j-test.true
-    (handed _ _ _ _ _ _ _ _ c.loop-j.invariant.ask c.loop-j-test.true c.wide-a.ensures.0 c.wide-e.ensures.0 c.wide-c.ensures.0 c.wide-d.ensures.0)
+overflow_add-places c = let h = tallying_small _ _ c.loop-j.invariant c.loop-j-test.true
+    (handed _ _ c.loop-j.invariant.ask c.loop-j-test.true c.wide-a_start.ensures.0 c.wide-a_end.ensures.0 c.wide-b_start.ensures.0 c.wide-b_end.ensures.0)
     c.count_rows-places.ensures in record { fits = omega arith }
 
 pub loop-j-preserved : goal.loop-j-preserved
-loop-j-preserved c = tallying_turn _ _ _ _ _ _ _ _ c.loop-j.invariant c.loop-j-test.true
-    (handed _ _ _ _ _ _ _ _ c.loop-j.invariant.ask c.loop-j-test.true c.wide-a.ensures.0 c.wide-e.ensures.0 c.wide-c.ensures.0 c.wide-d.ensures.0)
+loop-j-preserved c = tallying_turn _ _ c.loop-j.invariant c.loop-j-test.true
+    (handed _ _ c.loop-j.invariant.ask c.loop-j-test.true c.wide-a_start.ensures.0 c.wide-a_end.ensures.0 c.wide-b_start.ensures.0 c.wide-b_end.ensures.0)
     c.count_rows-places.ensures
