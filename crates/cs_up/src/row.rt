@@ -13,7 +13,7 @@ ghost use Rattle.cs_up.specs.Steps.{take_at, held, goes, way, Reads, Rows, Rowed
 use lists::numbers::wide;
 use lists::tight::tight;
 
-// x(r) = x(r) - (value times t) for each of the rows r. By place: a zip was tried and is slower, as in take_run.
+// x(r) = x(r) - (value times t) for each of the rows r. By place: a zip tests two ends at each row.
 fn take_rows(t: f64, rows: &[u32], vals: &[f64], x: &mut [f64])
     requires { Entries (length x.old) rows.now vals.now }
     ensures { x.new ≡ over (take_at t) rows.now vals.now x.old }

@@ -12,5 +12,6 @@ use Rattle.cs_left.proofs.stray.some_stray.Goals as goal
 pub returns : goal.returns
 returns c =
     let f = stray_at (pattern_of c.args.a) (analysis_of c.args.given) in
-    any_from_yields_List f _ _ c.any.result c.any.ensures.ran (YieldsList-from_range 0 c.args.a.ncols c.args.a.ncols refl (omega arith)) (λ x b q k. search (rules, tests))
+    any_from_yields_List f _ _ c.any.result c.any.ensures.ran (YieldsList-from_range 0 c.args.a.ncols c.args.a.ncols refl (omega arith))
+    (λ x b q k. search (rules, tests))
     ∙ any-chosen f c.args.a.ncols
