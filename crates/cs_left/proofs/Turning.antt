@@ -22,7 +22,7 @@ use Rattle.lists.proofs.Members.{listed-or-not}
 use Rattle.lists.proofs.Ordering.{rising_once, rising_rises}
 use Rattle.lists.proofs.Parts.{length-placed}
 use Rattle.lists.proofs.Places.{placed-after}
-use Rattle.cs_matrix.specs.Matrix.{pattern, matrix, column}
+use Rattle.cs_matrix.specs.Matrix.{pattern, Matrix, matrix, column}
 use Rattle.cs_matrix.proofs.Pointers.{at_most, length-column, get_or-column}
 use Rattle.cs_tree.specs.Pattern.{analysis, upper, lower, entries}
 use Rattle.cs_pattern.specs.Columns.{columns}
@@ -132,20 +132,20 @@ module _ {n : ℕ} {p i : List ℕ} {v : List Float} {up ui lp li : List ℕ} {r
   l_last = S.l_laid.pointed.at n (omega (arith, S.l_long)) ∙ ap entries (take_all n ls (omega (arith, S.l_long))) ∙ S.promised.counts
 
 -- ---- the state before column k
-pub record State (n : ℕ) (p i : List ℕ) (v : List Float) (lp : List ℕ) (lx₀ : List Float) (next : List ℕ) (lx x : List Float) (k : ℕ) : Type 0 where
+pub record State (a : Matrix) (lp : List ℕ) (lx₀ : List Float) (next : List ℕ) (lx x : List Float) (k : ℕ) : Type 0 where
   pub done : List (List Float)
   pub count : length done ≡ k
   pub starts : (j : ℕ) → j ≤ k → length (flatten (take j done)) ≡ get_or lp j 0
   pub held : take (length (flatten done)) lx ≡ flatten done
-  pub reached : Reached (left_step (matrix n n p i v) (upper (columns (pattern n n p i))) (lower (columns (pattern n n p i)))) n k done
+  pub reached : Reached (left_step a (upper (columns a.pattern)) (lower (columns a.pattern))) a.pattern.ncols k done
   pub lx_long : length lx ≡ length lx₀
-  pub rest : drop (entries (upper (columns (pattern n n p i)))) lx ≡ drop (entries (upper (columns (pattern n n p i)))) lx₀
-  pub next_long : length next ≡ n
-  pub next_at : (j : ℕ) → j < k → Next k (get_or (lower (columns (pattern n n p i))) j []) (get_or lp j 0) (get_or next j 0)
-  pub zeros : x ≡ replicate n none
+  pub rest : drop (entries (upper (columns a.pattern))) lx ≡ drop (entries (upper (columns a.pattern))) lx₀
+  pub next_long : length next ≡ a.pattern.ncols
+  pub next_at : (j : ℕ) → j < k → Next k (get_or (lower (columns a.pattern)) j []) (get_or lp j 0) (get_or next j 0)
+  pub zeros : x ≡ replicate a.pattern.ncols none
 
 pub state_start : {n : ℕ} {p i : List ℕ} {v : List Float} {tr up ui lp li : List ℕ} {room : ℕ} {next : List ℕ} (lx : List Float) {x : List Float} →
-    Asked (matrix n n p i v) (analysis tr up ui lp li) room next x → State n p i v lp lx next lx x 0
+    Asked (matrix n n p i v) (analysis tr up ui lp li) room next x → State (matrix n n p i v) lp lx next lx x 0
 unfolding flatten entries
 state_start {n} {p} {i} {v} {lp = lp} lx a =
     record {
@@ -164,7 +164,7 @@ state_start {n} {p} {i} {v} {lp = lp} lx a =
 -- ---- one column
 module _ {n : ℕ} {p i : List ℕ} {v : List Float} {up ui lp li : List ℕ} {room : ℕ} (S : Served n p i v up ui lp li room)
     (Q : strays (matrix n n p i v) ≡ false)
-    {lx₀ : List Float} (R : room ≡ length lx₀) {next : List ℕ} {lx x : List Float} {k : ℕ} (w : State n p i v lp lx₀ next lx x k) where
+    {lx₀ : List Float} (R : room ≡ length lx₀) {next : List ℕ} {lx x : List Float} {k : ℕ} (w : State (matrix n n p i v) lp lx₀ next lx x k) where
   abbrev D : List (List ℕ)
   D = columns (pattern n n p i)
 
@@ -409,7 +409,7 @@ module _ {n : ℕ} {p i : List ℕ} {v : List Float} {up ui lp li : List ℕ} {r
                 ∙ ⊎_elim (λ m. zero_on (get_or L k []) y z (omega (arith, l, x_long)) m.1) (λ m. zero_off (get_or L k []) y z m.1 ∙
                 ap (λ (s : List Float). get_or s z nan) x_is ∙ x_off S Q h w.done m.1 b) (listed-or-not z (get_or L k []))
 
-        pub state_turn : State n p i v lp lx₀ next2 lx1 y1 (k + 1)
+        pub state_turn : State (matrix n n p i v) lp lx₀ next2 lx1 y1 (k + 1)
         state_turn =
             record {
               done = more;

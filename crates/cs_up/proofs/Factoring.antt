@@ -15,8 +15,8 @@ use Rattle.lists.specs.Parts.{part}
 use Rattle.lists.specs.Tables.{from}
 use Rattle.lists.proofs.Pushing.{parts_laid}
 use Rattle.root.specs.Root.{root_of}
-use Rattle.cs_matrix.specs.Matrix.{pattern, matrix}
-use Rattle.cs_tree.specs.Pattern.{analysis, upper, lower, entries}
+use Rattle.cs_matrix.specs.Matrix.{pattern, Matrix, matrix}
+use Rattle.cs_tree.specs.Pattern.{Analysis, analysis, upper, lower, entries}
 use Rattle.cs_pattern.specs.Columns.{columns}
 use Rattle.cs_cholesky.specs.Factor.{Step, Outcome, factored, factor}
 use Rattle.cs_cholesky.specs.declared.Factored.{Factored}
@@ -43,18 +43,18 @@ held-is : (n : ℕ) (lp next : List ℕ) (lx : List Float) → held n lp next lx
 unfolding held
 held-is n lp next lx = refl
 
-pub record Factoring (n : ℕ) (p i : List ℕ) (v : List Float) (tr up ui lp li : List ℕ) (lx₀ : List Float) (next₀ : List ℕ) (x₀ lx : List Float)
-    (next : List ℕ) (x : List Float) (k : ℕ) : Type 0 where
+pub record Factoring (a : Matrix) (given : Analysis) (lx₀ : List Float) (next₀ : List ℕ) (x₀ lx : List Float) (next : List ℕ) (x : List Float)
+    (k : ℕ) : Type 0 where
   pub lx_long : length lx ≡ length lx₀
   pub next_long : length next ≡ length next₀
   pub x_long : length x ≡ length x₀
-  pub ready : Ready (matrix n n p i v) (analysis tr up ui lp li) lx next x
-  pub stands : Stands k k lp li next
-  pub reached : Reached (step_of n p i v) n k (held k lp next lx)
+  pub ready : Ready a given lx next x
+  pub stands : Stands k k given.lp given.li next
+  pub reached : Reached (up_step a (upper (columns a.pattern)) (lower (columns a.pattern))) a.pattern.ncols k (held k given.lp next lx)
 
 pub factoring-start : {n : ℕ} {p i : List ℕ} {v : List Float} {tr up ui lp li : List ℕ} {lx : List Float} {next : List ℕ} {x : List Float} →
     Ready (matrix n n p i v) (analysis tr up ui lp li) lx next x
-    → Factoring n p i v tr up ui lp li lx next x lx next x 0
+    → Factoring (matrix n n p i v) (analysis tr up ui lp li) lx next x lx next x 0
 factoring-start {n} {p} {i} {v} {tr} {up} {ui} {lp} {li} {lx} {next} {x} r = record {
   lx_long = refl;
   next_long = refl;
@@ -70,7 +70,7 @@ Owed n p i v r lx = (r ≡ (upOf (matrix n n p i v)).answer) × (r.number ≡ 0 
 
 module _ {n : ℕ} {p i : List ℕ} {v : List Float} {tr up ui lp li : List ℕ} {lx₀ : List Float} {next₀ : List ℕ} {x₀ lx : List Float} {next : List ℕ}
     {x : List Float} {k : ℕ}
-    (w : Factoring n p i v tr up ui lp li lx₀ next₀ x₀ lx next x k) where
+    (w : Factoring (matrix n n p i v) (analysis tr up ui lp li) lx₀ next₀ x₀ lx next x k) where
   abbrev R : Ready (matrix n n p i v) (analysis tr up ui lp li) lx next x
   R = w.ready
 
@@ -87,7 +87,7 @@ module _ {n : ℕ} {p i : List ℕ} {v : List Float} {tr up ui lp li : List ℕ}
       pub factoring-turn : {lx2 : List Float} {next2 : List ℕ} → not (lt none pivot) ≡ false → length lx1 ≡ length lx → length next1 ≡ length next →
           length x1 ≡ length x
           → (lx2 ≡ set lx1 (get_or lp k 0) (root_of pivot)) × (next2 ≡ set next1 k (get_or lp k 0 + 1)) →
-          Factoring n p i v tr up ui lp li lx₀ next₀ x₀ lx2 next2 x1 (k + 1)
+          Factoring (matrix n n p i v) (analysis tr up ui lp li) lx₀ next₀ x₀ lx2 next2 x1 (k + 1)
       factoring-turn t l m o c =
           let b : lt none pivot ≡ true = not-false (lt none pivot) t in
           rw (c.0, c.1)

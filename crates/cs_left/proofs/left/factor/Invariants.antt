@@ -1,6 +1,7 @@
 -- `factor` meets its contract. Assumes nothing.
+use Rattle.cs_left.specs.Lent.{square_of}
 use Rattle.cs_left.proofs.Turning.{State}
 use Rattle.cs_left.proofs.left.factor.Given as goal
 
 abbrev pub invariant-loop-k : goal.invariant-loop-k
-invariant-loop-k l = State l.n l.a.pattern.p.now l.a.pattern.i.now l.a.v.now l.lp l.initial.lx l.next l.lx l.x l.k
+invariant-loop-k l = State (square_of l.a) l.given.lp.now l.initial.lx l.next l.lx l.x l.k
