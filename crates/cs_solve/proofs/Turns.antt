@@ -8,22 +8,21 @@ use lib.Ieee.{Float}
 use lib.ListN.{length}
 use Rattle.lists.specs.Folds.{turns}
 use Rattle.lists.specs.Order.{rises}
-use Rattle.lists.specs.Parts.{part}
 use Rattle.lists.proofs.Folds.{turns-none, turns_more, turns-end, Falls, falls-turn, falls-end}
 use Rattle.cs_matrix.specs.Matrix.{Matrix, value_at}
+use Rattle.cs_solve.specs.Diagonal.{IsColumn}
 use Rattle.cs_solve.specs.Judge.{Passed}
 use Rattle.cs_solve.specs.Solve.{forward_at, forward_column, forward}
 use Rattle.cs_solve.specs.TrSolve.{transposed_at, transposed_column, transposed, Column}
-use Rattle.cs_solve.proofs.Columns.{Handed, diagonal-is, part_alike, part-below}
+use Rattle.cs_solve.proofs.Columns.{diagonal-is, column-alike, column-below}
 use Rattle.cs_solve.proofs.Steps.{length-forward_column, length-transposed_at}
 
 -- ---- rising
 -- the step that the code makes is the column's
-pub forward-step : {a : Matrix} {j s e : ℕ} {d : Float} (b : List Float) {b' : List Float} → Handed a j s e →
-    d ≡ value_at j (part s e a.pattern.i) (part s e a.v)
-    → b' ≡ forward_at j d (part s e a.pattern.i) (part s e a.v) b → b' ≡ forward_column a j b
+pub forward-step : {a : Matrix} {j : ℕ} {rows : List ℕ} {vals : List Float} {d : Float} (b : List Float) {b' : List Float} → IsColumn a j rows vals →
+    d ≡ value_at j rows vals → b' ≡ forward_at j d rows vals b → b' ≡ forward_column a j b
 unfolding forward_column
-forward-step b h q e = e ∙ (rw (diagonal-is h q, h.rows, h.vals))
+forward-step b h q e = e ∙ (rw (diagonal-is h q, h.rows_are, h.vals_are))
 
 pub record Forwarding (a : Matrix) (b₀ b : List Float) (j : ℕ) : Type 0 where
   pub passed : Passed a (length b₀)
@@ -35,20 +34,19 @@ pub forwarding_start : {a : Matrix} {b : List Float} → Passed a (length b) →
 forwarding_start {b = b} w = record { passed = w; within = omega arith; long = refl; is = turns-none _ b }
 
 module _ {a : Matrix} {b₀ b : List Float} {j : ℕ} (w : Forwarding a b₀ b j) where
-  pub forwarding_asked : {s e : ℕ} → j < a.pattern.ncols → Handed a j s e → Column j (length b) (part s e a.pattern.i) (part s e a.v) ×
-      (rises (part s e a.pattern.i) ≡ true)
+  pub forwarding_asked : {rows : List ℕ} {vals : List Float} → j < a.pattern.ncols → IsColumn a j rows vals →
+      Column j (length b) rows vals × (rises rows ≡ true)
   forwarding_asked g h = (
     record {
-      alike = part_alike w.passed.valid h;
-      below = λ q f. omega (arith, part-below w.passed.valid h q f, w.long, w.passed.whole, w.passed.square);
+      alike = column-alike w.passed.valid g h;
+      below = λ q f. omega (arith, column-below w.passed.valid g h q f, w.long, w.passed.whole, w.passed.square);
       here = omega (arith, w.long, w.passed.whole);
     },
-    rw h.rows (w.passed.valid.pattern.rise j g),
+    rw h.rows_are (w.passed.valid.pattern.rise j g),
   )
 
-  pub forwarding_turn : {s e : ℕ} {d : Float} {b' : List Float} → j < a.pattern.ncols → Handed a j s e →
-      d ≡ value_at j (part s e a.pattern.i) (part s e a.v)
-      → b' ≡ forward_at j d (part s e a.pattern.i) (part s e a.v) b → Forwarding a b₀ b' (j + 1)
+  pub forwarding_turn : {rows : List ℕ} {vals : List Float} {d : Float} {b' : List Float} → j < a.pattern.ncols → IsColumn a j rows vals →
+      d ≡ value_at j rows vals → b' ≡ forward_at j d rows vals b → Forwarding a b₀ b' (j + 1)
   forwarding_turn g h q e =
       let f = forward-step b h q e in
       record {
@@ -63,10 +61,10 @@ module _ {a : Matrix} {b₀ b : List Float} {j : ℕ} (w : Forwarding a b₀ b j
   forwarding_end g = turns-end a.pattern.ncols j _ b₀ w.is w.within g
 
 -- ---- falling
-column-step : {a : Matrix} {j s e : ℕ} {d : Float} (b : List Float) → Handed a j s e → d ≡ value_at j (part s e a.pattern.i) (part s e a.v)
-    → transposed_at j d (part s e a.pattern.i) (part s e a.v) b ≡ transposed_column a j b
+column-step : {a : Matrix} {j : ℕ} {rows : List ℕ} {vals : List Float} {d : Float} (b : List Float) → IsColumn a j rows vals →
+    d ≡ value_at j rows vals → transposed_at j d rows vals b ≡ transposed_column a j b
 unfolding transposed_column
-column-step b h q = rw (diagonal-is h q, h.rows, h.vals)
+column-step b h q = rw (diagonal-is h q, h.rows_are, h.vals_are)
 
 pub record Transposing (a : Matrix) (b₀ b : List Float) (k : ℕ) : Type 0 where
   pub passed : Passed a (length b₀)
@@ -77,21 +75,21 @@ module _ {a : Matrix} {b₀ b : List Float} {k : ℕ} (w : Transposing a b₀ b 
   pub k_inside : k - 1 < a.pattern.ncols
   k_inside = omega (arith, w.rest.within)
 
-  module _ {s e : ℕ} (t : Handed a (k - 1) s e) where
-    pub column_asked : Column (k - 1) (length b) (part s e a.pattern.i) (part s e a.v)
+  module _ {rows : List ℕ} {vals : List Float} (t : IsColumn a (k - 1) rows vals) where
+    pub column_asked : Column (k - 1) (length b) rows vals
     column_asked =
         record {
-          alike = part_alike w.passed.valid t;
-          below = λ q g. omega (arith, part-below w.passed.valid t q g, w.long, w.passed.whole, w.passed.square);
+          alike = column-alike w.passed.valid k_inside t;
+          below = λ q g. omega (arith, column-below w.passed.valid k_inside t q g, w.long, w.passed.whole, w.passed.square);
           here = omega (arith, k_inside, w.long, w.passed.whole);
         }
 
-    pub transposing_turn : {d : Float} {b' : List Float} → d ≡ value_at (k - 1) (part s e a.pattern.i) (part s e a.v) →
-        b' ≡ transposed_at (k - 1) d (part s e a.pattern.i) (part s e a.v) b → Transposing a b₀ b' (k - 1)
+    pub transposing_turn : {d : Float} {b' : List Float} → d ≡ value_at (k - 1) rows vals → b' ≡ transposed_at (k - 1) d rows vals b →
+        Transposing a b₀ b' (k - 1)
     transposing_turn {d} q f =
         record {
           passed = w.passed;
-          long = ap length f ∙ length-transposed_at (k - 1) d (part s e a.pattern.i) (part s e a.v) b ∙ w.long;
+          long = ap length f ∙ length-transposed_at (k - 1) d rows vals b ∙ w.long;
           rest = falls-turn (transposed_column a) w.rest h (f ∙ column-step b t q);
         }
 

@@ -7,10 +7,9 @@ ghost use Rattle.cs_matrix.specs.Lent.{matrix_of};
 ghost use Rattle.cs_matrix.specs.Matrix.{Valid};
 ghost use Rattle.cs_solve.specs.Judge.{judged_solve, lacking_columns, Names};
 
-use crate::diagonal::value_at;
+use crate::diagonal::lacks;
 use cs_matrix::check::check;
 use cs_matrix::matrix::{Matrix, Pattern};
-use lists::numbers::wide;
 use lists::refusal::{Refusal, lower};
 
 // What refuses a matrix with a right side of m elements first: 1 to 5, or nothing.
@@ -30,12 +29,8 @@ pub fn first_lacking(a: Matrix<'_>) -> Option<usize>
     requires { Valid (matrix_of a) }
     ensures { let a = matrix_of a.entry in let l = lacking_columns a in Names a.pattern.ncols l (first_or 0 l) result }
 {
-    let Matrix { pattern, v } = a;
-    let Pattern { ncols, p, i, .. } = pattern;
-    for j in 0..ncols {
-        let s = wide(p[j]);
-        let e = wide(p[j + 1]);
-        if value_at(j, &i[s..e], &v[s..e]) == 0.0 {
+    for j in 0..a.pattern.ncols {
+        if lacks(a, j) {
             return Some(j);
         }
     }
@@ -47,12 +42,8 @@ pub fn last_lacking(a: Matrix<'_>) -> Option<usize>
     requires { Valid (matrix_of a) }
     ensures { let a = matrix_of a.entry in let l = lacking_columns a in Names a.pattern.ncols l (last_or 0 l) result }
 {
-    let Matrix { pattern, v } = a;
-    let Pattern { ncols, p, i, .. } = pattern;
-    for j in (0..ncols).rev() {
-        let s = wide(p[j]);
-        let e = wide(p[j + 1]);
-        if value_at(j, &i[s..e], &v[s..e]) == 0.0 {
+    for j in (0..a.pattern.ncols).rev() {
+        if lacks(a, j) {
             return Some(j);
         }
     }

@@ -13,9 +13,9 @@ ghost use Rattle.cs_solve.specs.Solve.{lower_at, forward_at, forward as forwardO
 ghost use Rattle.cs_solve.specs.TrSolve.{Column};
 
 use crate::Solved;
-use crate::diagonal::value_at;
+use crate::diagonal::{column, value_at};
 use crate::judge::{first_lacking, judge};
-use cs_matrix::matrix::{Matrix, Pattern};
+use cs_matrix::matrix::Matrix;
 use lists::numbers::wide;
 use lists::tight::tight;
 
@@ -81,13 +81,8 @@ fn forward(a: Matrix<'_>, b: &mut [f64])
     requires { Passed (matrix_of a) (length b.old) }
     ensures { b.new ≡ forwardOf (matrix_of a.entry) b.old }
 {
-    let Matrix { pattern, v } = a;
-    let Pattern { ncols, p, i, .. } = pattern;
-    for j in 0..ncols {
-        let s = wide(p[j]);
-        let e = wide(p[j + 1]);
-        let rows = &i[s..e];
-        let vals = &v[s..e];
+    for j in 0..a.pattern.ncols {
+        let (rows, vals) = column(a, j);
         let d = value_at(j, rows, vals);
         forward_column(j, d, rows, vals, b);
     }

@@ -8,9 +8,9 @@ ghost use Rattle.cs_solve.specs.Judge.{number, answer, lacking_columns, Passed};
 ghost use Rattle.cs_solve.specs.TrSolve.{raise_at, transposed_at, transposed as transposedOf, Column};
 
 use crate::Solved;
-use crate::diagonal::value_at;
+use crate::diagonal::{column, value_at};
 use crate::judge::{judge, last_lacking};
-use cs_matrix::matrix::{Matrix, Pattern};
+use cs_matrix::matrix::Matrix;
 use lists::numbers::wide;
 
 // b(j) after b(j) = b(j) - (value times b(i)) for the lower rows i of column j.
@@ -42,13 +42,8 @@ fn transposed(a: Matrix<'_>, b: &mut [f64])
     requires { Passed (matrix_of a) (length b.old) }
     ensures { b.new ≡ transposedOf (matrix_of a.entry) b.old }
 {
-    let Matrix { pattern, v } = a;
-    let Pattern { ncols, p, i, .. } = pattern;
-    for j in (0..ncols).rev() {
-        let s = wide(p[j]);
-        let e = wide(p[j + 1]);
-        let rows = &i[s..e];
-        let vals = &v[s..e];
+    for j in (0..a.pattern.ncols).rev() {
+        let (rows, vals) = column(a, j);
         let d = value_at(j, rows, vals);
         transposed_at(j, d, rows, vals, b);
     }

@@ -9,16 +9,13 @@ use native.Mathlib.Nat.{eq-or-lt_of_le}
 use native.Mathlib.Numerals.{add-one}
 use native.Mathlib.Omega.{arith}
 use lib.Dec.{leb}
-use lib.Ieee.{Float, eq}
+use lib.Ieee.{Float}
 use lib.ListN.{length, get_or, replicate, length-append, length-replicate, get_or-replicate}
 use borrow.Author.Tests.{le-ltb, le-leb, eq-eqb, ne_eqb}
-use Rattle.lists.specs.Calls.{none}
 use Rattle.lists.specs.Choices.{chosen, some_of}
 use Rattle.lists.specs.Order.{lists}
-use Rattle.lists.specs.Parts.{part}
-use Rattle.cs_matrix.specs.Matrix.{Pattern, Matrix, Valid, column, value_at}
-use Rattle.cs_solve.specs.Diagonal.{lacking}
-use Rattle.cs_solve.proofs.Columns.{Handed, lacking-is}
+use Rattle.cs_matrix.specs.Matrix.{Pattern, Matrix, Valid, column}
+use Rattle.cs_solve.specs.Diagonal.{lacking, IsColumn}
 use Rattle.cs_solve_cs.specs.Reach.{stores, touched, reached_below, reached}
 use Rattle.cs_solve_cs.specs.Steps.{mark_all, marked, marks}
 use Rattle.lists.proofs.Chosen.{some_of-append, chosen_alike, chosen-within}
@@ -116,9 +113,6 @@ module _ {a : Matrix} {rows w : List ℕ} {count : ℕ} {least : Option ℕ} {m 
   abbrev l : List ℕ
   l = reached_below a.pattern rows m
 
-  abbrev given : ℕ → ℕ → List ℕ
-  given s e = part s e a.pattern.i
-
   pub count_small : count ≤ m
   count_small = omega (arith, r.counted, below-within a.pattern rows m)
 
@@ -135,27 +129,26 @@ module _ {a : Matrix} {rows w : List ℕ} {count : ℕ} {least : Option ℕ} {m 
   pub seen_before : is_some least ≡ true → Seen least
   seen_before t = names_before a.pattern.ncols (lacking a) l m least t r.lacks
 
-  module _ {s e : ℕ} {d : Float} (b : Handed a m s e) (q : d ≡ value_at m (part s e a.pattern.i) (part s e a.v)) where
-    pub seen_new : is_some least ≡ false → eq d none ≡ true → Seen (Some m)
-    seen_new t u = names_new a.pattern.ncols (lacking a) l m least t (lacking-is b q u) h r.lacks
+  pub seen_new : is_some least ≡ false → lacking a m ≡ true → Seen (Some m)
+  seen_new t u = names_new a.pattern.ncols (lacking a) l m least t u h r.lacks
 
-    pub seen_not : eq d none ≡ false → Seen least
-    seen_not u = names-not a.pattern.ncols (lacking a) l m least (lacking-is b q u) r.lacks
+  pub seen_not : lacking a m ≡ false → Seen least
+  seen_not u = names-not a.pattern.ncols (lacking a) l m least u r.lacks
 
-  pub reaching_on : {s e : ℕ} {x : Option ℕ} {w' : List ℕ} → (get_or w m 0 ≡ 0 → ⊥) → Handed a m s e → Seen x →
-      w' ≡ mark_all (m + 1) (given s e) w → Reaching a rows w' (count + 1) x (m + 1)
-  reaching_on {s} {e} {x} {w'} t b f q = record {
+  pub reaching_on : {given : List ℕ} {vals : List Float} {x : Option ℕ} {w' : List ℕ} → (get_or w m 0 ≡ 0 → ⊥) → IsColumn a m given vals → Seen x →
+      w' ≡ mark_all (m + 1) given w → Reaching a rows w' (count + 1) x (m + 1)
+  reaching_on {given} {vals} {x} {w'} t b f q = record {
     valid = r.valid;
     within = omega arith;
-    long = ap length q ∙ length-mark_all (m + 1) (given s e) w ∙ r.long;
+    long = ap length q ∙ length-mark_all (m + 1) given w ∙ r.long;
     counted = rw (below_more a.pattern rows m (hit t), length-append l (m ∷ []), ← r.counted);
     lacks = rw (below_more a.pattern rows m (hit t)) f;
-    each = λ k l. ap (λ (u : List ℕ). marked u k) q ∙ marked_all (m + 1) (given s e) w k (omega (arith, r.long)) ∙
-        ap (λ (u : Bool). (leb (m + 1) k && lists k (given s e)) || u) (r.each k l) ∙ store k;
+    each = λ k l. ap (λ (u : List ℕ). marked u k) q ∙ marked_all (m + 1) given w k (omega (arith, r.long)) ∙
+        ap (λ (u : Bool). (leb (m + 1) k && lists k given) || u) (r.each k l) ∙ store k;
   }
     where
-      store : (k : ℕ) → ((leb (m + 1) k && lists k (given s e)) || touched a.pattern rows l k) ≡ touched a.pattern rows (reached_below a.pattern rows (m + 1)) k
-      store k = rw (below_more a.pattern rows m (hit t), touched-more a.pattern rows l m k, b.rows) (go k)
+      store : (k : ℕ) → ((leb (m + 1) k && lists k given) || touched a.pattern rows l k) ≡ touched a.pattern rows (reached_below a.pattern rows (m + 1)) k
+      store k = rw (below_more a.pattern rows m (hit t), touched-more a.pattern rows l m k, b.rows_are) (go k)
         where
           go : (k : ℕ) → ((leb (m + 1) k && lists k (column a.pattern.p m a.pattern.i)) || touched a.pattern rows l k)
               ≡ (stores a.pattern m k || touched a.pattern rows l k)

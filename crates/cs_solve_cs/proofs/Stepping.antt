@@ -12,14 +12,13 @@ use borrow.Author.Tests.{eq-eqb, ne_eqb}
 use Rattle.lists.specs.Calls.{onto}
 use Rattle.lists.specs.Choices.{chosen}
 use Rattle.lists.specs.Folds.{along}
-use Rattle.lists.specs.Parts.{part}
 use Rattle.lists.proofs.Bools.{le-or-lt}
 use Rattle.lists.proofs.Choices.{chosen_more, chosen-same}
 use Rattle.lists.proofs.Parts.{onto-more, onto-none, length-onto}
 use Rattle.lists.proofs.Positions.{over-keeps}
 use Rattle.cs_matrix.specs.Matrix.{Matrix, value_at, Valid}
+use Rattle.cs_solve.specs.Diagonal.{IsColumn}
 use Rattle.cs_solve.specs.Solve.{lower_at, forward_at, forward_column}
-use Rattle.cs_solve.proofs.Columns.{Handed}
 use Rattle.cs_solve.proofs.Steps.{lower-set, lower-above, length-forward_column}
 use Rattle.cs_solve.proofs.Turns.{forward-step}
 use Rattle.cs_solve_cs.specs.Steps.{marked, marks, Room}
@@ -67,9 +66,8 @@ unfolding chosen along
 forwarding_start a w x = record { within = omega arith; long = refl; is = refl }
 
 module _ {a : Matrix} {w : List ℕ} {x₀ x : List Float} {j : ℕ} (f : Forwarding a w x₀ x j) (h : j < a.pattern.ncols) where
-  pub forwarding_on : {s e : ℕ} {d : Float} {x' : List Float} → (get_or w j 0 ≡ 0 → ⊥) → Handed a j s e →
-      d ≡ value_at j (part s e a.pattern.i) (part s e a.v)
-      → x' ≡ forward_at j d (part s e a.pattern.i) (part s e a.v) x → Forwarding a w x₀ x' (j + 1)
+  pub forwarding_on : {rows : List ℕ} {vals : List Float} {d : Float} {x' : List Float} → (get_or w j 0 ≡ 0 → ⊥) → IsColumn a j rows vals →
+      d ≡ value_at j rows vals → x' ≡ forward_at j d rows vals x → Forwarding a w x₀ x' (j + 1)
   forwarding_on t b q u =
       let c = forward-step x b q u in
       record {
@@ -184,8 +182,8 @@ module _ {a : Matrix} {w : List ℕ} {x₀ : List Float} {xi₀ : List ℕ} {xv�
     pub serving_off : get_or w j 0 ≡ 0 → Serving a w x₀ xi₀ xv₀ x xi xv at (j + 1)
     serving_off t = record { valid = s.valid; steps = forwarding_off s.steps h t; out = gathering_off s.out h t }
 
-    module _ {b e : ℕ} {d : Float} {y : List Float} (c : Handed a j b e) (q : d ≡ value_at j (part b e a.pattern.i) (part b e a.v))
-        (u : y ≡ forward_at j d (part b e a.pattern.i) (part b e a.v) x) where
+    module _ {rows : List ℕ} {vals : List Float} {d : Float} {y : List Float} (c : IsColumn a j rows vals) (q : d ≡ value_at j rows vals)
+        (u : y ≡ forward_at j d rows vals x) where
       stepped : y ≡ forward_column a j x
       stepped = forward-step x c q u
 

@@ -8,8 +8,8 @@ ghost use Rattle.cs_solve.specs.Judge.{Names};
 ghost use Rattle.cs_solve_cs.specs.Reach.{reached};
 ghost use Rattle.cs_solve_cs.specs.Steps.{mark_all, marks};
 
-use cs_matrix::matrix::{Matrix, Pattern};
-use cs_solve::diagonal::value_at;
+use cs_matrix::matrix::Matrix;
+use cs_solve::diagonal::{column, lacks};
 use lists::numbers::wide;
 
 // Marks each of the rows that is not below `from`.
@@ -39,20 +39,16 @@ pub fn reach(a: Matrix<'_>, bi: &[u32], w: &mut [u32]) -> Swept
         let bad = keep (lacking a) l in
         (marks a.pattern.ncols w.new ≡ l) × (result.count ≡ length l) × Names a.pattern.ncols bad (first_or 0 bad) result.lacking }
 {
-    let Matrix { pattern, v } = a;
-    let Pattern { ncols, p, i, .. } = pattern;
     mark(0, bi, w);
     let mut count = 0;
     let mut lacking = None;
-    for j in 0..ncols {
+    for j in 0..a.pattern.ncols {
         if w[j] != 0 {
             count += 1;
-            let s = wide(p[j]);
-            let e = wide(p[j + 1]);
-            let rows = &i[s..e];
-            if lacking.is_none() && value_at(j, rows, &v[s..e]) == 0.0 {
+            if lacking.is_none() && lacks(a, j) {
                 lacking = Some(j);
             }
+            let (rows, _) = column(a, j);
             mark(j + 1, rows, w);
         }
     }

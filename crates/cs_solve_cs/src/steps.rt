@@ -9,8 +9,8 @@ ghost use Rattle.cs_solve.specs.Solve.{forward_column};
 ghost use Rattle.cs_solve_cs.specs.SolveCs.{put_at};
 ghost use Rattle.cs_solve_cs.specs.Steps.{marks, Room};
 
-use cs_matrix::matrix::{Matrix, Pattern};
-use cs_solve::diagonal::value_at;
+use cs_matrix::matrix::Matrix;
+use cs_solve::diagonal::{column, value_at};
 use cs_solve::solve::forward_at;
 use lists::numbers::wide;
 
@@ -44,15 +44,10 @@ pub fn forward(a: Matrix<'_>, w: &[u32], x: &mut [f64], xi: &mut [u32], xv: &mut
         let y = along (forward_column a) l x.old in
         (xi.new ≡ onto xi.old l) × (xv.new ≡ onto xv.old (map (λ j. get_or y j nan) l)) }
 {
-    let Matrix { pattern, v } = a;
-    let Pattern { ncols, p, i, .. } = pattern;
     let mut at = 0;
-    for j in 0..ncols {
+    for j in 0..a.pattern.ncols {
         if w[j] != 0 {
-            let s = wide(p[j]);
-            let e = wide(p[j + 1]);
-            let rows = &i[s..e];
-            let vals = &v[s..e];
+            let (rows, vals) = column(a, j);
             let d = value_at(j, rows, vals);
             forward_at(j, d, rows, vals, x);
             at = push(j, x[j], at, xi, xv);

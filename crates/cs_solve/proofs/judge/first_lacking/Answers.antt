@@ -1,38 +1,21 @@
 -- `first_lacking`: the walk that looks for the first. Assumes nothing.
-use native.Mathlib.Omega.{arith}
+use Rattle.std.proofs.Common.{arith, sym, ◌∙◌}
 use Rattle.lists.proofs.Choices.{upward_start, upward_turn, upward_found, upward_end}
 use Rattle.cs_solve.specs.Judge.{lacking_columns}
-use Rattle.cs_solve.proofs.Columns.{handed, lacking-is}
 use Rattle.cs_solve.proofs.judge.first_lacking.Goals as goal
 
 pub loop-j-init : goal.loop-j-init
 loop-j-init c = upward_start _ _
 
-pub slice_bounds-value_at-end : goal.slice_bounds-value_at-end
-slice_bounds-value_at-end c =
-    let h = c.loop-j-test.true in
-    let b = handed c.requires h c.wide-s.ensures.0 c.wide-e.ensures.0 in
-    b.inside
-
-pub slice_bounds-value_at-end-in-loop-j : goal.slice_bounds-value_at-end-in-loop-j
-slice_bounds-value_at-end-in-loop-j c =
-    let h = c.loop-j-test.true in
-    let b = handed c.requires h c.wide-s.ensures.0 c.wide-e.ensures.0 in
-    b.inside_v
-
-pub returns-then-value_at : goal.returns-then-value_at
+pub returns-then-lacks : goal.returns-then-lacks
 unfolding lacking_columns
-returns-then-value_at c =
+returns-then-lacks c =
     let h = c.loop-j-test.true in
-    let b = handed c.requires h c.wide-s.ensures.0 c.wide-e.ensures.0 in
-    let f = upward_found c.loop-j.invariant c.loop-j-test.true (lacking-is b c.value_at.ensures c.if-value_at.true) in
+    let f = upward_found c.loop-j.invariant h (sym c.lacks.ensures ∙ c.if-lacks.true) in
     ((f.found h).0, (f.found h).1, h)
 
 pub loop-j-preserved : goal.loop-j-preserved
-loop-j-preserved c =
-    let h = c.loop-j-test.true in
-    let b = handed c.requires h c.wide-s.ensures.0 c.wide-e.ensures.0 in
-    upward_turn c.loop-j.invariant c.loop-j-test.true (lacking-is b c.value_at.ensures c.if-value_at.false)
+loop-j-preserved c = upward_turn c.loop-j.invariant c.loop-j-test.true (sym c.lacks.ensures ∙ c.if-lacks.false)
 
 pub returns : goal.returns
 unfolding lacking_columns

@@ -5,4 +5,4 @@ use Rattle.cs_matrix.specs.Lent.{matrix_of}
 use Rattle.cs_solve.proofs.judge.first_lacking.Given as goal
 
 abbrev pub invariant-loop-j : goal.invariant-loop-j
-invariant-loop-j l = Upward l.ncols (lacking (matrix_of l.a)) l.j
+invariant-loop-j l = Upward l.a.pattern.ncols (lacking (matrix_of l.a)) l.j

@@ -5,4 +5,4 @@ use Rattle.cs_matrix.specs.Lent.{matrix_of}
 use Rattle.cs_solve.proofs.judge.last_lacking.Given as goal
 
 abbrev pub invariant-loop-j : goal.invariant-loop-j
-invariant-loop-j l = Downward l.ncols (lacking (matrix_of l.a)) l.j
+invariant-loop-j l = Downward l.a.pattern.ncols (lacking (matrix_of l.a)) l.j

@@ -1,24 +1,18 @@
 -- `forward`: the loop of proofs/Turns.antt. Assumes nothing.
 use Rattle.cs_solve.proofs.Turns.{forwarding_start, forwarding_asked, forwarding_turn, forwarding_end}
-use Rattle.cs_solve.proofs.Columns.{handed}
 use Rattle.cs_solve.proofs.solve.forward.Goals as goal
 
 pub loop-j-init : goal.loop-j-init
 loop-j-init c = forwarding_start c.requires
 
-pub slice_bounds-rows-end : goal.slice_bounds-rows-end
-slice_bounds-rows-end c = (handed c.requires.valid c.loop-j-test.true c.wide-s.ensures.0 c.wide-e.ensures.0).inside
-
-pub slice_bounds-vals-end : goal.slice_bounds-vals-end
-slice_bounds-vals-end c = (handed c.requires.valid c.loop-j-test.true c.wide-s.ensures.0 c.wide-e.ensures.0).inside_v
+pub column-requires : goal.column-requires
+column-requires c = (c.requires.valid, c.loop-j-test.true)
 
 pub forward_column-requires : goal.forward_column-requires
-forward_column-requires c = forwarding_asked c.loop-j.invariant c.loop-j-test.true
-    (handed c.requires.valid c.loop-j-test.true c.wide-s.ensures.0 c.wide-e.ensures.0)
+forward_column-requires c = forwarding_asked c.loop-j.invariant c.loop-j-test.true c.column.ensures
 
 pub loop-j-preserved : goal.loop-j-preserved
-loop-j-preserved c = forwarding_turn c.loop-j.invariant c.loop-j-test.true
-    (handed c.requires.valid c.loop-j-test.true c.wide-s.ensures.0 c.wide-e.ensures.0) c.value_at-d.ensures c.forward_column.ensures
+loop-j-preserved c = forwarding_turn c.loop-j.invariant c.loop-j-test.true c.column.ensures c.value_at-d.ensures c.forward_column.ensures
 
 pub returns : goal.returns
 returns c = forwarding_end c.loop-j.invariant c.loop-j-test.false

@@ -1,25 +1,17 @@
 -- `forward`: the loop of proofs/Stepping.antt. Assumes nothing.
 use Rattle.cs_solve_cs.proofs.Stepping.{serving_start, serving_on, serving_off, serving_end, out_i, out_v}
-use Rattle.cs_solve.proofs.Columns.{handed, j_small}
+use Rattle.cs_solve.proofs.Columns.{j_small}
 use Rattle.cs_solve_cs.proofs.steps.forward.Goals as goal
 use Rattle.cs_solve_cs.proofs.steps.forward.Goals.{else-w-j-ne0, then-w-j-ne0}
 
 pub loop-j-init : goal.loop-j-init
 loop-j-init c = serving_start c.requires.0 c.requires.1
 
-pub slice_bounds-rows-end : goal.slice_bounds-rows-end
-slice_bounds-rows-end c = (handed c.loop-j.invariant.valid c.loop-j-test.true c.wide-s.ensures.0 c.wide-e.ensures.0).inside
-
-pub slice_bounds-vals-end : goal.slice_bounds-vals-end
-slice_bounds-vals-end c = (handed c.loop-j.invariant.valid c.loop-j-test.true c.wide-s.ensures.0 c.wide-e.ensures.0).inside_v
-
 pub push-at-requires : goal.push-at-requires
 push-at-requires c = (
   j_small c.loop-j.invariant.valid c.loop-j-test.true,
-  out_i c.loop-j.invariant c.loop-j-test.true (handed c.loop-j.invariant.valid c.loop-j-test.true c.wide-s.ensures.0 c.wide-e.ensures.0)
-      c.value_at-d.ensures c.forward_at.ensures c.if-w-j-ne0.true,
-  out_v c.loop-j.invariant c.loop-j-test.true (handed c.loop-j.invariant.valid c.loop-j-test.true c.wide-s.ensures.0 c.wide-e.ensures.0)
-      c.value_at-d.ensures c.forward_at.ensures c.if-w-j-ne0.true,
+  out_i c.loop-j.invariant c.loop-j-test.true c.column.ensures c.value_at-d.ensures c.forward_at.ensures c.if-w-j-ne0.true,
+  out_v c.loop-j.invariant c.loop-j-test.true c.column.ensures c.value_at-d.ensures c.forward_at.ensures c.if-w-j-ne0.true,
 )
 
 pub loop-j-preserved : goal.loop-j-preserved
@@ -28,8 +20,8 @@ loop-j-preserved c =
     let h = c.loop-j-test.true in
     elim c.if-w-j-ne0.branch [
       | then-w-j-ne0 t ↦
-          rw (t.x-is, t.xi-is, t.xv-is, t.at-is) (serving_on s h (handed s.valid h t.wide-s.ensures.0 t.wide-e.ensures.0) t.value_at-d.ensures
-          t.forward_at.ensures t.if-w-j-ne0.true t.push-at.ensures)
+          rw (t.x-is, t.xi-is, t.xv-is, t.at-is)
+          (serving_on s h t.column.ensures t.value_at-d.ensures t.forward_at.ensures t.if-w-j-ne0.true t.push-at.ensures)
       | else-w-j-ne0 t ↦
           rw (t.x-is, t.xi-is, t.xv-is, t.at-is) (serving_off s h t.if-w-j-ne0.false)
     ]
