@@ -1,6 +1,6 @@
 -- What `read_upper` tells, and what `decide` makes of it: each step, and each way out. Assumes nothing.
-use Rattle.std.proofs.Common.{◌≡◌, ℕ, ◌+◌, ◌<◌, ◌≤◌, Bool, true, false, not, ◌&&◌, ltb, Option, List, [], ◌∷◌, length, get_or, sym, ap, ◌∙◌, true≢false}
-use Rattle.std.proofs.Common.{arith, take_all, le-ltb, lt-ltb}
+use Rattle.std.proofs.Common.{◌≡◌, ℕ, ◌+◌, ◌<◌, ◌≤◌, Bool, true, false, not, ◌&&◌, ltb, Option, List, [], ◌∷◌, length, get_or, sym, ap, ◌∙◌}
+use Rattle.std.proofs.Common.{true≢false, arith, take_all, le-ltb, lt-ltb}
 use mathlib.Core.List.{flatten}
 use Rattle.lists.specs.Calls.{lowest, cleared}
 use Rattle.lists.specs.Parts.{part, placed}
