@@ -150,9 +150,3 @@ pub record Asked (a : Matrix) (given : Analysis) (room : ℕ) (next : List ℕ) 
   pub none_stray : strays a ≡ false
   pub next_long : length next ≡ a.pattern.ncols
   pub zeros : x ≡ replicate a.pattern.ncols none
-
--- what it comes to, where U has t entries
-pub record Ended (t : ℕ) (f : Outcome) (r : Factored) (old new : List Float) : Type 0 where
-  pub answer_is : r ≡ f.answer
-  pub whole : r.number ≡ 0 → take t new ≡ flatten f.columns
-  pub rest : drop t new ≡ drop t old

@@ -64,10 +64,6 @@ factoring-start {n} {p} {i} {v} {tr} {up} {ui} {lp} {li} {lx} {next} {x} r = rec
   reached = rw (held_none lp next lx) (reached-start (step_of n p i v) n);
 }
 
--- what a way out owes
-abbrev Owed : ℕ → List ℕ → List ℕ → List Float → Factored → List Float → Type 0
-Owed n p i v r lx = (r ≡ (upOf (matrix n n p i v)).answer) × (r.number ≡ 0 → lx ≡ flatten (upOf (matrix n n p i v)).columns)
-
 module _ {n : ℕ} {p i : List ℕ} {v : List Float} {tr up ui lp li : List ℕ} {lx₀ : List Float} {next₀ : List ℕ} {x₀ lx : List Float} {next : List ℕ}
     {x : List Float} {k : ℕ}
     (w : Factoring (matrix n n p i v) (analysis tr up ui lp li) lx₀ next₀ x₀ lx next x k) where
@@ -76,10 +72,10 @@ module _ {n : ℕ} {p i : List ℕ} {v : List Float} {tr up ui lp li : List ℕ}
 
   module _ (h : k < n) where
     module _ {lx1 : List Float} {next1 : List ℕ} {x1 : List Float} {pivot : Float} (g : Gone k (matrix n n p i v) (analysis tr up ui lp li) lx next x lx1 next1 x1 pivot) where
-      pub factoring_stop : not (lt none pivot) ≡ true → Owed n p i v (factored 11 k pivot) lx1
+      pub factoring_stop : not (lt none pivot) ≡ true → (factored 11 k pivot ≡ (upOf (matrix n n p i v)).answer) × ((factored 11 k pivot).number ≡ 11)
       factoring_stop t =
           let e = factor-is n p i v ∙ reached_stop (step_of n p i v) w.reached h (pivot_is R h g) (not-true (lt none pivot) t) in
-          (sym (ap (λ (f : Outcome). f.answer) e), λ z. absurd (omega arith))
+          (sym (ap (λ (f : Outcome). f.answer) e), refl)
 
       pub factoring_closes : not (lt none pivot) ≡ false → length lx1 ≡ length lx → length next1 ≡ length next → Closes k lp lx1 next1
       factoring_closes t l m = column_closes R h g (not-false (lt none pivot) t) l m
@@ -136,7 +132,7 @@ module _ {n : ℕ} {p i : List ℕ} {v : List Float} {tr up ui lp li : List ℕ}
         let z : entries (upper (columns (pattern n n p i))) - 0 ≡ length lx = omega (arith, R.lx_long) in
         sym (ap flatten (held-is n lp next lx) ∙ f ∙ (rw (e, L.start, L.end, z) (take-length lx)))
 
-    pub factoring-end : {r : Factored} → r ≡ factored 0 0 none → Owed n p i v r lx
-    factoring-end {r} q =
+    pub factoring-end : ((upOf (matrix n n p i v)).answer ≡ factored 0 0 none) × (lx ≡ flatten (upOf (matrix n n p i v)).columns)
+    factoring-end =
         let e = factor-is n p i v ∙ reached-end (step_of n p i v) w.reached h in
-        (q ∙ sym (ap (λ (f : Outcome). f.answer) e), λ z. whole ∙ sym (ap (λ (f : Outcome). flatten f.columns) e ∙ (rw at-end refl)))
+        (ap (λ (f : Outcome). f.answer) e, whole ∙ sym (ap (λ (f : Outcome). flatten f.columns) e ∙ (rw at-end refl)))

@@ -23,4 +23,4 @@ loop-k-preserved c = state_turn c.requires.served c.requires.none_stray refl c.l
     c.gather-pivot.ensures (not-false _ c.if-not-pivot.false-raw) c.root.ensures.0 c.finish.ensures
 
 pub returns : goal.returns
-returns c = state_end c.requires.served c.requires.none_stray refl c.loop-k.invariant c.loop-k-test.false refl
+returns c = state_end c.requires.served c.requires.none_stray refl c.loop-k.invariant c.loop-k-test.false

@@ -1,5 +1,4 @@
 -- `factor`: the loop of proofs/Factoring.antt. Assumes nothing.
-use mathlib.Core.Path.{refl}
 use Rattle.cs_up.proofs.Factoring.{factoring-start, factoring_stop, factoring_closes, factoring-turn, factoring-end}
 use Rattle.cs_up.proofs.up.factor.Goals as goal
 
@@ -18,4 +17,4 @@ loop-k-preserved c = factoring-turn c.loop-k.invariant c.loop-k-test.true c.colu
     c.column-pivot.auto.next c.column-pivot.auto.x c.close.ensures
 
 pub returns : goal.returns
-returns c = factoring-end c.loop-k.invariant c.loop-k-test.false refl
+returns c = factoring-end c.loop-k.invariant c.loop-k-test.false
