@@ -26,7 +26,6 @@ use Rattle.cs_matrix.specs.Matrix.{pattern, Matrix, matrix, column}
 use Rattle.cs_matrix.proofs.Pointers.{at_most, length-column, get_or-column}
 use Rattle.cs_tree.specs.Pattern.{analysis, upper, lower, entries}
 use Rattle.cs_pattern.specs.Columns.{columns}
-use Rattle.cs_cholesky.specs.declared.Factored.{Factored}
 use Rattle.cs_cholesky.specs.Factor.{Outcome, factored}
 use Rattle.cs_cholesky.specs.Served.{Served}
 use Rattle.cs_cholesky.proofs.Factoring.{Reached, reached-start, reached-turn, reached_stop, reached-end}
@@ -165,9 +164,6 @@ state_start {n} {p} {i} {v} {lp = lp} lx a =
 module _ {n : ℕ} {p i : List ℕ} {v : List Float} {up ui lp li : List ℕ} {room : ℕ} (S : Served n p i v up ui lp li room)
     (Q : strays (matrix n n p i v) ≡ false)
     {lx₀ : List Float} (R : room ≡ length lx₀) {next : List ℕ} {lx x : List Float} {k : ℕ} (w : State (matrix n n p i v) lp lx₀ next lx x k) where
-  abbrev D : List (List ℕ)
-  D = columns (pattern n n p i)
-
   abbrev U : List (List ℕ)
   U = upper (columns (pattern n n p i))
 

@@ -1,7 +1,6 @@
 -- `work`: what is written to L's values, by 0 and by 11. Assumes nothing.
 use mathlib.Core.Path.{◌≡◌, refl, sym, ap, ◌∙◌}
-use mathlib.Core.List.{List, [], ◌++◌, flatten}
-use mathlib.Core.Logic.{⊎_elim}
+use mathlib.Core.List.{List, ◌++◌, flatten}
 use Prim.Native.Nat.{ℕ, ◌≤◌}
 use native.Mathlib.Omega.{arith}
 use lib.Ieee.{Float}
@@ -11,13 +10,12 @@ use borrow.Author.Tests.{eq-eqb, ne_eqb}
 use Rattle.lists.specs.Calls.{onto, none, cleared}
 use Rattle.lists.proofs.Fronts.{cleared-is}
 use Rattle.cs_matrix.specs.Matrix.{pattern, matrix}
-use Rattle.cs_tree.specs.Pattern.{upper, lower, entries}
+use Rattle.cs_tree.specs.Pattern.{upper, entries}
 use Rattle.cs_pattern.specs.Columns.{columns}
 use Rattle.cs_cholesky.specs.declared.Factored.{Factored}
 use Rattle.cs_cholesky.specs.Factor.{Outcome, factored, written}
 use Rattle.cs_cholesky.specs.Served.{Served}
-use Rattle.cs_cholesky.proofs.Factoring.{factor-ends}
-use Rattle.cs_left.specs.Left.{left, left_step}
+use Rattle.cs_left.specs.Left.{left}
 
 module _ {n : ℕ} {p i : List ℕ} {v : List Float} {up ui lp li : List ℕ} {room : ℕ} (S : Served n p i v up ui lp li room) where
   abbrev U : List (List ℕ)

@@ -1,5 +1,5 @@
 -- `factor`: the columns in turn, until a pivot stops them or L is whole. Assumes nothing.
-use mathlib.Core.Bool.{true, false, not}
+use mathlib.Core.Bool.{true, false}
 use mathlib.Core.List.{List, [], flatten}
 use mathlib.Core.Logic.{⊎_elim}
 use mathlib.Core.Path.{◌≡◌, refl, sym, ap, ◌∙◌}
@@ -18,7 +18,6 @@ use Rattle.cs_matrix.specs.Matrix.{pattern, Matrix, matrix}
 use Rattle.cs_tree.specs.Pattern.{Analysis, analysis, upper, lower, entries}
 use Rattle.cs_pattern.specs.Columns.{columns}
 use Rattle.cs_cholesky.specs.Factor.{Step, Outcome, factored, factor}
-use Rattle.cs_cholesky.specs.declared.Factored.{Factored}
 use Rattle.cs_cholesky.proofs.Factoring.{Reached, reached-start, reached-turn, reached_stop, reached-end}
 use Rattle.cs_up.specs.Steps.{held, Stands, Closes, Ready, Gone}
 use Rattle.cs_up.specs.Up.{up_step, up as upOf}
