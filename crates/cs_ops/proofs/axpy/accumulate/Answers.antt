@@ -3,7 +3,7 @@ use mathlib.Core.Path.{refl, ◌∙◌}
 use lib.Ieee.{nan}
 use Rattle.std.proofs.Common.{rules, arith, length-append}
 use Rattle.std.proofs.lemmas.Slice.Zip.{zip_turn, zip_end}
-use Rattle.cs_ops.proofs.Adding.{added-done, storing_start, storing_turn, fitting_scaled}
+use Rattle.cs_ops.proofs.Adding.{added-done, storing_turn}
 use Rattle.cs_ops.specs.Axpy.{add_at}
 use Rattle.cs_ops.proofs.axpy.accumulate.Goals as goal
 

@@ -3,7 +3,7 @@ use mathlib.Core.Path.{refl}
 use native.Mathlib.Omega.{arith}
 use lib.Ieee.{nan}
 use Rattle.cs_ops.specs.Scale.{times, scaled}
-use Rattle.lists.proofs.Mapping.{mapping_turn, mapping_long, mapping_done}
+use Rattle.lists.proofs.Mapping.{mapping_turn, mapping_done}
 use Rattle.cs_ops.proofs.scale.times.Goals as goal
 
 pub loop-x-preserved : goal.loop-x-preserved

@@ -1,10 +1,7 @@
 -- `fill`: the loop of proofs/Produced.antt. Assumes nothing.
-use mathlib.Core.Path.{◌∙◌}
 use native.Mathlib.Omega.{arith}
-use lib.ListN.{length-set}
-use Rattle.cs_product.proofs.Produced.{writing_start, writing_small, writing_p, writing_last, writing_i, writing_v, writing_handed, writing_bv}
+use Rattle.cs_product.proofs.Produced.{writing_start, writing_small, writing_handed, writing_bv}
 use Rattle.cs_product.proofs.Produced.{writing_asks, writing_turn, writing_done}
-use Rattle.cs_product.proofs.Meeting.{x_long}
 use Rattle.cs_product.proofs.product.fill.Goals as goal
 
 pub loop-j-init : goal.loop-j-init

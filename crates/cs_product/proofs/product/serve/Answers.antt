@@ -1,6 +1,6 @@
 -- `serve`: the ways out of proofs/Produced.antt. Assumes nothing.
 use mathlib.Core.Path.{refl}
-use Rattle.cs_product.proofs.Produced.{clean_begun, at_7, ready, at-end}
+use Rattle.cs_product.proofs.Produced.{at_7, ready, at-end}
 use Rattle.cs_product.proofs.product.serve.Goals as goal
 
 pub returns-then-lacks_room : goal.returns-then-lacks_room

@@ -1,6 +1,5 @@
 -- `bound`: the loop of proofs/Produced.antt. Assumes nothing.
-use native.Mathlib.Omega.{arith}
-use Rattle.cs_product.proofs.Produced.{bounding_start, bounding_handed, bounding_asks, bounding_small, bounding_turn, bounding_done}
+use Rattle.cs_product.proofs.Produced.{bounding_start, bounding_handed, bounding_asks, bounding_turn, bounding_done}
 use Rattle.cs_product.proofs.room.bound.Goals as goal
 
 pub loop-j-init : goal.loop-j-init

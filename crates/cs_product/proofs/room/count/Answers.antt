@@ -1,7 +1,6 @@
 -- `count`: the loop of proofs/Produced.antt. Assumes nothing.
 use native.Mathlib.Omega.{arith}
 use Rattle.cs_product.proofs.Produced.{tallying_start, tallying_handed, tallying_bv, tallying_asks, tallying_small, tallying_turn, tallying_done}
-use Rattle.cs_product.proofs.Meeting.{x_long}
 use Rattle.cs_product.proofs.room.count.Goals as goal
 
 pub loop-j-init : goal.loop-j-init

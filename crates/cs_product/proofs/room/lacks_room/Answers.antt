@@ -1,5 +1,5 @@
 -- `lacks_room`: the two ways out of proofs/Produced.antt. Assumes nothing.
-use Rattle.cs_product.proofs.Produced.{operands, bound_fits, room-counted}
+use Rattle.cs_product.proofs.Produced.{bound_fits}
 use Rattle.cs_product.proofs.room.lacks_room.Goals as goal
 
 pub returns-then-not-no_room : goal.returns-then-not-no_room

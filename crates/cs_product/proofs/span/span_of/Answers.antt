@@ -1,6 +1,5 @@
 -- `span_of`: the loop of proofs/Spanning.antt. Assumes nothing.
-use native.Mathlib.Omega.{arith}
-use Rattle.cs_product.proofs.Spanning.{spanning_start, spanning_done, spanning_on, spanning_off, col_below, col_in_p, first-in, last-in}
+use Rattle.cs_product.proofs.Spanning.{spanning_done, spanning_on, spanning_off, first-in, last-in}
 use Rattle.cs_product.proofs.span.span_of.Goals as goal
 use Rattle.cs_product.proofs.span.span_of.Goals.{else-a-e, then-a-e}
 

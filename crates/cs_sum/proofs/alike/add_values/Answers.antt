@@ -1,6 +1,5 @@
 -- `add_values`: the loop of proofs/Equal.antt. Assumes nothing.
-use native.Mathlib.Omega.{arith}
-use Rattle.cs_sum.proofs.Equal.{adding_start, adding_turn, adding_i, adding_v, adding_done}
+use Rattle.cs_sum.proofs.Equal.{adding_start, adding_turn, adding_done}
 use Rattle.cs_sum.proofs.alike.add_values.Goals as goal
 
 pub loop-k-init : goal.loop-k-init

@@ -1,7 +1,6 @@
 -- `count_rows`: the loop of proofs/Merged.antt. Assumes nothing.
 use mathlib.Core.Logic.{inl, inr}
 use native.Mathlib.Omega.{arith}
-use Rattle.cs_columns.proofs.Merging.{first-in, second_in, both_first}
 use Rattle.cs_sum.proofs.Merged.{counting_start, counting_small, counting_first, counting_second, counting_both, counting_done}
 use Rattle.cs_sum.proofs.merge.count_rows.Goals as goal
 use Rattle.cs_sum.proofs.merge.count_rows.Goals.{then-ka-ai, else-ka-ai+then-kb-bi, then-r-s, else-r-s+then-s-r, else-r-s+else-s-r}

@@ -3,7 +3,7 @@ use mathlib.Core.Logic.{inl, inr}
 use native.Mathlib.Omega.{arith}
 use Rattle.cs_columns.proofs.Merging.{first-in, second_in, both_first}
 use Rattle.cs_sum.proofs.Merged.{writing_small, first_i, first_v, first-value, second_i, second_v, second_value, both_i, both_v, both-value}
-use Rattle.cs_sum.proofs.Merged.{both-value_too, writing_i, writing_v, writing_done, walking_start, walking_first, walking_second, walking_both}
+use Rattle.cs_sum.proofs.Merged.{both-value_too, writing_done, walking_start, walking_first, walking_second, walking_both}
 use Rattle.cs_sum.proofs.merge.walk.Goals as goal
 use Rattle.cs_sum.proofs.merge.walk.Goals.{then-ka-ai, else-ka-ai+then-kb-bi, then-r-s, else-r-s+then-s-r, else-r-s+else-s-r}
 

@@ -1,6 +1,6 @@
 -- `count`: the loop of proofs/Summed.antt. Assumes nothing.
 use native.Mathlib.Omega.{arith}
-use Rattle.cs_sum.proofs.Summed.{tallying_start, tallying_small, tallying_turn, tallying_done, handed, risen}
+use Rattle.cs_sum.proofs.Summed.{tallying_start, tallying_small, tallying_turn, handed, risen}
 use Rattle.cs_sum.proofs.sum.count.Goals as goal
 
 pub loop-j-init : goal.loop-j-init

@@ -1,8 +1,6 @@
 -- `fill`: the loop of proofs/Summed.antt. Assumes nothing.
-use mathlib.Core.Path.{◌∙◌}
 use native.Mathlib.Omega.{arith}
-use lib.ListN.{length-set}
-use Rattle.cs_sum.proofs.Summed.{writing_start, writing_small, writing_p, writing_last, writing_i, writing_v, writing_asks, writing_turn}
+use Rattle.cs_sum.proofs.Summed.{writing_start, writing_small, writing_asks, writing_turn}
 use Rattle.cs_sum.proofs.Summed.{writing_done, handed}
 use Rattle.cs_sum.proofs.sum.fill.Goals as goal
 

@@ -1,6 +1,5 @@
 -- `lacks_room`: the two ways out of proofs/Summed.antt. Assumes nothing.
-use native.Mathlib.Omega.{arith}
-use Rattle.cs_sum.proofs.Summed.{room_for_both, room-counted}
+use Rattle.cs_sum.proofs.Summed.{room_for_both}
 use Rattle.cs_sum.proofs.sum.lacks_room.Goals as goal
 
 pub returns-then-not-no_room : goal.returns-then-not-no_room
