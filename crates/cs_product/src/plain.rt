@@ -28,12 +28,10 @@ fn add_plain(beta: f64, rows: &[u32], vals: &[f64], x: &mut [f64])
     requires { Entries (length x.old) rows.now vals.now × (rises rows.now ≡ true) }
     ensures { x.new ≡ over (plus_at beta) rows.now vals.now x.old }
 {
-    if rows.len() > 7 {
-        if tight(rows) {
-            let first = wide(rows[0]);
-            add_times(vals, beta, &mut x[first..first + vals.len()]);
-            return;
-        }
+    if rows.len() > 7 && tight(rows) {
+        let first = wide(rows[0]);
+        add_times(vals, beta, &mut x[first..first + vals.len()]);
+        return;
     }
     add_rows(beta, rows, vals, x);
 }
