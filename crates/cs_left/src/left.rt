@@ -57,13 +57,16 @@ fn gather(
 }
 
 // L's column k, where d is the root of the pivot.
-fn finish(k: usize, d: f64, lp: &[u32], li: &[u32], lx: &mut [f64], next: &mut [u32], x: &mut [f64])
-    requires { Finishes k lp.now li.now lx.old next.old (length x.old) }
-    ensures { let rows = column lp.now k li.now in
-        (lx.new ≡ placed (get_or lp.now k 0) (get_or lp.now (k + 1) 0) lx.old (quotients d rows x.old))
+fn finish(k: usize, d: f64, given: Analysis<'_>, lx: &mut [f64], next: &mut [u32], x: &mut [f64])
+    requires { Finishes k given.lp.now given.li.now lx.old next.old (length x.old) }
+    ensures { let given = analysis_of given.entry in
+        let s = get_or given.lp k 0 in
+        let rows = column given.lp k given.li in
+        (lx.new ≡ placed s (get_or given.lp (k + 1) 0) lx.old (quotients d rows x.old))
         × (x.new ≡ along zero_at rows x.old)
-        × (next.new ≡ set next.old k (get_or lp.now k 0 + 1)) }
+        × (next.new ≡ set next.old k (s + 1)) }
 {
+    let Analysis { lp, li, .. } = given;
     let s = wide(lp[k]);
     let e = wide(lp[k + 1]);
     divide(d, &li[s..e], &mut lx[s..e], x);
@@ -86,9 +89,7 @@ fn factor(
         (λ stopped. (stopped ≡ (left a).answer) × (stopped.number ≡ 11))
         × (drop t lx.new ≡ drop t lx.old) }
 {
-    let n = a.pattern.ncols;
-    let Analysis { lp, li, .. } = given;
-    for k in 0..n {
+    for k in 0..a.pattern.ncols {
         let pivot = gather(k, a, given, lx, next, x);
         if !(pivot > 0.0) {
             return Err(Factored {
@@ -97,7 +98,7 @@ fn factor(
                 pivot,
             });
         }
-        finish(k, root(pivot), lp, li, lx, next, x);
+        finish(k, root(pivot), given, lx, next, x);
     }
     Ok(())
 }

@@ -72,9 +72,7 @@ fn factor(
         (λ _. (f.answer ≡ factored 0 0 none) × (lx.new ≡ flatten f.columns))
         (λ stopped. (stopped ≡ f.answer) × (stopped.number ≡ 11)) }
 {
-    let n = a.pattern.ncols;
-    let lp = given.lp;
-    for k in 0..n {
+    for k in 0..a.pattern.ncols {
         let pivot = column(k, a, given, lx, next, x);
         if !(pivot > 0.0) {
             return Err(Factored {
@@ -83,7 +81,7 @@ fn factor(
                 pivot,
             });
         }
-        close(k, pivot, lp, lx, next);
+        close(k, pivot, given.lp, lx, next);
     }
     Ok(())
 }
