@@ -8,14 +8,14 @@ use lib.Dec.{eqb}
 use lib.Ieee.{Float}
 use lib.ListN.{length, get_or}
 use Rattle.lists.specs.Calls.{lowest, none, Scratch, scratch, cleared, wiped, lent, worked, leaves}
-use Rattle.lists.specs.Choices.{some, chosen}
+use Rattle.lists.specs.Choices.{some}
 use Rattle.lists.specs.Parts.{part, placed}
 use Rattle.lists.proofs.Calls.{wiped_each}
 use Rattle.lists.proofs.Chosen.{chosen_alike}
 use Rattle.lists.proofs.Clearing.{length-cleared, cleared-again}
 use Rattle.lists.proofs.Laying.{part_long}
 use Rattle.lists.proofs.Ordering.{rising_rises}
-use Rattle.lists.proofs.Returning.{back_long, front-zeros, cleared-after}
+use Rattle.lists.proofs.Returning.{front-zeros, cleared-after}
 use Rattle.cs_matrix.specs.Matrix.{pattern, Matrix, matrix, column, needed}
 use Rattle.cs_tree.specs.Pattern.{Analysis, analysis, upper, lower, entries}
 use Rattle.cs_pattern.specs.Columns.{columns}
@@ -125,12 +125,6 @@ module _ (nrows n : ℕ) (p i : List ℕ) (v : List Float) (tr up ui lp li : Lis
 
       pub way_x : n ≤ length xa
       way_x = omega (arith, ap length xa_is, length-cleared none (n + 1) x, P.wide.in_x)
-
-      pub way_w1_long : (ys : List ℕ) → length ys ≡ length (part 0 n w1a) → length (placed 0 n w1a ys) ≡ length w1a
-      way_w1_long ys l = back_long n w1a ys way_w1 l
-
-      pub way_x_long : (zs : List Float) → length zs ≡ length (part 0 n xa) → length (placed 0 n xa zs) ≡ length xa
-      way_x_long zs l = back_long n xa zs way_x l
 
       module _ {b : Bool} {w2b : List ℕ} (g : (b ≡ some_stray a.pattern given) ×
           (w2b ≡ cleared 0 (n + 1) w2a)) where

@@ -1,7 +1,7 @@
 -- What the steps of the left factoring ask and leave, on plain lists. Assumes nothing.
-use Rattle.std.specs.Prelude.{◌≡◌, Bool, true, false, not, cond, ◌&&◌, ◌⊎◌, ℕ, ◌+◌, ◌-◌, ◌≤◌, ◌<◌, ltb, eqb, Float, length, get_or, set, take, drop}
+use Rattle.std.specs.Prelude.{◌≡◌, Bool, true, false, not, cond, ◌&&◌, ◌⊎◌, ℕ, ◌+◌, ◌-◌, ◌≤◌, ◌<◌, ltb, eqb, Float, length, get_or, set}
 use Rattle.std.specs.Prelude.{replicate}
-use mathlib.Core.List.{List, flatten, Memᴰ}
+use mathlib.Core.List.{List, Memᴰ}
 use Rattle.lists.specs.Calls.{none}
 use Rattle.lists.specs.Choices.{some_of, some, chosen}
 use Rattle.lists.specs.Entries.{Entries}
@@ -9,8 +9,6 @@ use Rattle.lists.specs.Folds.{along}
 use Rattle.lists.specs.Order.{lists, rises}
 use Rattle.cs_matrix.specs.Matrix.{Pattern, Matrix, column}
 use Rattle.cs_tree.specs.Pattern.{Analysis}
-use Rattle.cs_cholesky.specs.declared.Factored.{Factored}
-use Rattle.cs_cholesky.specs.Factor.{Outcome}
 use Rattle.cs_cholesky.specs.Served.{Served}
 use Rattle.cs_left.specs.Left.{add_column, strays}
 
@@ -150,9 +148,3 @@ pub record Asked (a : Matrix) (given : Analysis) (room : ℕ) (next : List ℕ) 
   pub none_stray : strays a ≡ false
   pub next_long : length next ≡ a.pattern.ncols
   pub zeros : x ≡ replicate a.pattern.ncols none
-
--- what it comes to, where U has t entries
-pub record Ended (t : ℕ) (f : Outcome) (r : Factored) (old new : List Float) : Type 0 where
-  pub answer_is : r ≡ f.answer
-  pub whole : r.number ≡ 0 → take t new ≡ flatten f.columns
-  pub rest : drop t new ≡ drop t old

@@ -1,7 +1,8 @@
 // The left factoring: the columns of L in turn, each from the stored part at and below its diagonal and from columns before it.
-ghost use Rattle.std.specs.Prelude.{◌≡◌, ◌+◌, length, get_or, set};
+ghost use Rattle.std.specs.Prelude.{◌≡◌, ◌+◌, length, get_or, set, take, drop, MatchResult};
 ghost use Rattle.std.specs.Float.{nan};
-ghost use Rattle.lists.specs.Calls.{lent, scratch, leaves};
+ghost use mathlib.Core.List.{flatten};
+ghost use Rattle.lists.specs.Calls.{none, lent, scratch, leaves};
 ghost use Rattle.lists.specs.Folds.{along, over};
 ghost use Rattle.lists.specs.Parts.{placed};
 ghost use Rattle.cs_matrix.specs.Lent.{matrix_of};
@@ -9,10 +10,10 @@ ghost use Rattle.cs_matrix.specs.Matrix.{column, needed};
 ghost use Rattle.cs_tree.specs.Pattern.{upper, entries};
 ghost use Rattle.cs_pattern.specs.Columns.{columns};
 ghost use Rattle.cs_pattern.specs.Lent.{analysis_of};
-ghost use Rattle.cs_cholesky.specs.Factor.{answer, written};
+ghost use Rattle.cs_cholesky.specs.Factor.{answer, factored, written};
 ghost use Rattle.cs_left.specs.Left.{put_at, quotients, left, number};
 ghost use Rattle.cs_left.specs.Lent.{square_of};
-ghost use Rattle.cs_left.specs.Steps.{add_held, advance, zero_at, Gathers, Finishes, Asked, Ended};
+ghost use Rattle.cs_left.specs.Steps.{add_held, advance, zero_at, Gathers, Finishes, Asked};
 
 use crate::column::{add_columns, divide, load};
 use crate::stray::strays;
@@ -69,36 +70,36 @@ fn finish(k: usize, d: f64, lp: &[u32], li: &[u32], lx: &mut [f64], next: &mut [
     next[k] = lp[k] + 1;
 }
 
-// All columns, until a pivot is not above zero, or is NaN.
+// All columns, until a pivot is not above zero, or is NaN: the answer is then that of the call.
 fn factor(
     a: Matrix<'_>,
     given: Analysis<'_>,
     lx: &mut [f64],
     next: &mut [u32],
     x: &mut [f64],
-) -> Factored
+) -> Result<(), Factored>
     requires { Asked (square_of a) (analysis_of given) (length lx.old) next.old x.old }
     ensures { let a = square_of a.entry in
-        Ended (entries (upper (columns a.pattern))) (left a) result lx.old lx.new }
+        let t = entries (upper (columns a.pattern)) in
+        MatchResult result
+        (λ _. ((left a).answer ≡ factored 0 0 none) × (take t lx.new ≡ flatten (left a).columns))
+        (λ stopped. (stopped ≡ (left a).answer) × (stopped.number ≡ 11))
+        × (drop t lx.new ≡ drop t lx.old) }
 {
     let n = a.pattern.ncols;
     let Analysis { lp, li, .. } = given;
     for k in 0..n {
         let pivot = gather(k, a, given, lx, next, x);
         if !(pivot > 0.0) {
-            return Factored {
+            return Err(Factored {
                 number: Refusal::BadPivot.number(),
                 column: k as u32,
                 pivot,
-            };
+            });
         }
         finish(k, root(pivot), lp, li, lx, next, x);
     }
-    Factored {
-        number: 0,
-        column: 0,
-        pivot: 0.0,
-    }
+    Ok(())
 }
 
 // The same, and by 11 zeros for all of L's values.
@@ -113,11 +114,15 @@ fn work(
     ensures { let a = square_of a.entry in
         (result ≡ (left a).answer) × (lx.new ≡ written (entries (upper (columns a.pattern))) (left a) lx.old) }
 {
-    let answer = factor(a, given, lx, next, x);
-    if answer.number == Refusal::BadPivot.number() {
+    if let Err(stopped) = factor(a, given, lx, next, x) {
         fill(0.0, wide(given.up[a.pattern.ncols]), lx);
+        return stopped;
     }
-    answer
+    Factored {
+        number: 0,
+        column: 0,
+        pivot: 0.0,
+    }
 }
 
 // Factors a matrix by its lent analysis: L's values are written to lx.

@@ -5,7 +5,7 @@ use mathlib.Core.List.{flatten}
 use lib.Ieee.{Float}
 use Rattle.lists.specs.Calls.{lowest, onto, none, cleared, Scratch, scratch, wiped, narrow, Lent, lent, leaves}
 use Rattle.lists.specs.Parts.{part, placed}
-use Rattle.lists.specs.Keeping.{Kept}
+use Rattle.lists.specs.Keeping.{Kept, Zeros}
 use Rattle.lists.specs.Sums.{sums}
 use Rattle.lists.specs.Runs.{zipped}
 use Rattle.lists.proofs.Runs.{zipped-values}
@@ -15,14 +15,14 @@ use Rattle.lists.proofs.Clearing.{length-cleared, cleared-again}
 use Rattle.lists.proofs.Laying.{part-onto, part_long}
 use Rattle.lists.proofs.Parts.{length_part, length-placed, get_d_part, length-onto, get_or-onto-front, get_or-onto-rest}
 use Rattle.lists.proofs.Places.{placed-after}
+use Rattle.lists.proofs.Keeping.{kept_then, kept-wider, kept-cleared, kept-onto, kept-placed, kept_clears}
 use Rattle.cs_matrix.specs.Matrix.{Pattern, pattern, needed, ValidPattern, judged_square}
+use Rattle.cs_matrix.proofs.Squaring.{judged6, early_6, Prepared, unprepared}
 use Rattle.cs_tree.specs.Pattern.{Analysis, analysis, analysed, upper, lower, starts, entries}
-use Rattle.lists.specs.Keeping.{Zeros}
 use Rattle.cs_tree.specs.Steps.{Given}
 use Rattle.cs_tree.specs.Falling.{Ending, Ample}
 use Rattle.cs_tree.specs.Tree.{tree}
 use Rattle.cs_tree.proofs.Count.{length-starts, entries-lower}
-use Rattle.lists.proofs.Keeping.{kept_then, kept-wider, kept-cleared, kept-onto, kept-placed, kept_clears}
 use Rattle.cs_tree.proofs.Laid.{length-laid, start-at}
 use Rattle.cs_tree.proofs.Lowering.{fronts, sums_a, sums_b}
 use Rattle.cs_tree.proofs.Promises.{length-lower}
@@ -33,7 +33,6 @@ use Rattle.cs_pattern.specs.Steps.{Counted, Outlined, Ready}
 use Rattle.cs_pattern.proofs.Columns.{columns_fit, columns_long, given}
 use Rattle.cs_pattern.proofs.Filled.{tree-size, upper-size, zeros-front, counts_there}
 use Rattle.cs_pattern.proofs.Promising.{analysed_holds}
-use Rattle.cs_matrix.proofs.Squaring.{judged6, early_6, Prepared, unprepared}
 
 -- ---- `fill`
 module _ {n t : ℕ} {p i : List ℕ} (v : ValidPattern (pattern n n p i)) {w1 w2 w3 : List ℕ} {out : Analysis}
@@ -299,8 +298,8 @@ module _ {nrows n : ℕ} {p i w1 w2 w3 : List ℕ} {x : List Float} {old : Scrat
                 },
               )
 
-          pub at-end : {new : Analysis} {w2f w3f : List ℕ} → b ≡ false → (new ≡ written (analysed D) out) × Kept 0 (n + 1) w2' w2f × Kept 0 (n + 1) w3' w3f →
-              {s : Scratch} → s ≡ wiped (n + 1) (scratch w1' w2f w3f x) → Answers 0 new s
+          pub at-end : {new : Analysis} {w2f w3f : List ℕ} → b ≡ false
+              → (new ≡ written (analysed D) out) × Kept 0 (n + 1) w2' w2f × Kept 0 (n + 1) w3' w3f → {s : Scratch} → s ≡ wiped (n + 1) (scratch w1' w2f w3f x) → Answers 0 new s
           at-end h g f = (
             sym (answer short-is ∙ ap (λ (c : Bool). cond c 7 0) h),
             done (needed a) _ (lent out old) (g.0 ∙ sym same-columns) (cleared-up kept1 (kept_then kept2' g.1) (kept_then kept3' g.2) f ∙

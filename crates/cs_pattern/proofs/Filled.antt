@@ -4,20 +4,19 @@ use mathlib.Core.List.{flatten}
 use Rattle.lists.specs.Calls.{cleared}
 use Rattle.lists.specs.Parts.{part, placed}
 use Rattle.lists.specs.Sums.{counted}
-use Rattle.lists.specs.Keeping.{Kept}
+use Rattle.lists.specs.Keeping.{Kept, Zeros}
 use Rattle.lists.proofs.Clearing.{length-cleared, cleared-front}
 use Rattle.lists.proofs.Laying.{placed-front, part_long, part-onto}
 use Rattle.lists.proofs.Parts.{get_d_part}
+use Rattle.lists.proofs.Keeping.{kept_then, kept-cleared, kept-placed}
 use Rattle.cs_matrix.specs.Matrix.{pattern, ValidPattern}
 use Rattle.cs_tree.specs.Pattern.{upper, lower, starts, entries}
-use Rattle.lists.specs.Keeping.{Zeros}
 use Rattle.cs_tree.specs.Steps.{Given, lengths, Whole}
 use Rattle.cs_tree.specs.Tree.{tree}
 use Rattle.cs_tree.proofs.Count.{length-starts}
 use Rattle.cs_tree.proofs.Falling.{upper-once, upper-below}
 use Rattle.cs_tree.proofs.Filling.{upper_long}
 use Rattle.cs_tree.proofs.Growing.{tree_long}
-use Rattle.lists.proofs.Keeping.{kept_then, kept-cleared, kept-placed}
 use Rattle.cs_tree.proofs.Laid.{start-at, length-laid}
 use Rattle.cs_tree.proofs.Lowering.{counted_are, rows_are}
 use Rattle.cs_pattern.specs.Columns.{columns}

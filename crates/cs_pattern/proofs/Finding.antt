@@ -7,13 +7,15 @@ use Rattle.lists.specs.Keys.{by_key}
 use Rattle.lists.specs.Parts.{part, placed}
 use Rattle.lists.specs.Keeping.{Kept}
 use Rattle.lists.specs.Runs.{zipped}
-use Rattle.lists.proofs.Bools.{and-true, not-both}
+use Rattle.lists.proofs.Bools.{and-true, not-both, alike}
 use Rattle.lists.proofs.Keeping.{kept_then, kept-onto, kept-placed}
 use Rattle.lists.proofs.Keys.{start-more}
 use Rattle.lists.proofs.Laying.{placed-front, part-front, part-onto, part_long}
 use Rattle.lists.proofs.Runs.{zipped-values}
 use Rattle.lists.proofs.Parts.{length_part, get_d_part, get_or-onto-front}
 use Rattle.lists.proofs.Standing.{Standing, standing_start}
+use Rattle.lists.specs.Order.{starts_with}
+use Rattle.lists.proofs.Matching.{starts-at, starts_long, starts-not, starts_places, starts-take}
 use Rattle.cs_tree.specs.Pattern.{transposed, starts, entries}
 use Rattle.cs_tree.specs.Steps.{numbers, Spread, Spreads, Whole}
 use Rattle.cs_tree.proofs.Count.{length-starts}
@@ -21,10 +23,7 @@ use Rattle.cs_tree.proofs.Laid.{length-laid, laid-transposed, transposed-start}
 use Rattle.cs_tree.proofs.Looking.{seen_starts, seen_places}
 use Rattle.cs_tree.proofs.Lowering.{items_long, named, lower_long, entries-lower}
 use Rattle.cs_tree.proofs.Spreading.{Going, going_holds, going_place, going_place-in, Columns, columns-turn, spreads_column, column_among}
-use Rattle.lists.specs.Order.{starts_with}
 use Rattle.cs_pattern.specs.Steps.{Looked}
-use Rattle.lists.proofs.Bools.{alike}
-use Rattle.lists.proofs.Matching.{starts-at, starts_long, starts-not, starts_places, starts-take}
 
 -- ---- `look_column`
 module _ {k : ℕ} {rows next₀ li next : List ℕ} {q : ℕ} (v : Going k rows next₀ li next li q) (h : q < length rows) {j t : ℕ}

@@ -6,11 +6,11 @@ use Rattle.lists.specs.Keys.{by_key}
 use Rattle.lists.specs.Parts.{part}
 use Rattle.lists.specs.Keeping.{Kept}
 use Rattle.lists.specs.Sums.{counted}
+use Rattle.lists.specs.Order.{starts_with}
 use Rattle.cs_tree.specs.Backward.{Holds}
 use Rattle.cs_tree.specs.Pattern.{upper, lower, entries, Analysis}
 use Rattle.cs_tree.specs.Steps.{lengths, Spread, Put}
 use Rattle.cs_tree.specs.Tree.{tree}
-use Rattle.lists.specs.Order.{starts_with}
 
 -- t entries in the columns, no more than a matrix may have, and one more in w' than in w at the row of each
 pub record Counted (us : List (List ℕ)) (w w' : List ℕ) (t : ℕ) : Type 0 where

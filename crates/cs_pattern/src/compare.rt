@@ -5,13 +5,13 @@ ghost use mathlib.Core.List.{flatten};
 ghost use Rattle.lists.specs.Calls.{lowest, scratch, worked};
 ghost use Rattle.lists.specs.Keeping.{Kept};
 ghost use Rattle.lists.specs.Refusals.{numbered};
+ghost use Rattle.lists.specs.Order.{starts_with};
 ghost use Rattle.cs_matrix.specs.Lent.{pattern_of};
 ghost use Rattle.cs_matrix.specs.Matrix.{needed, ValidPattern};
 ghost use Rattle.cs_tree.specs.Pattern.{analysed, transposed, starts};
 ghost use Rattle.cs_tree.specs.Steps.{Whole};
 ghost use Rattle.cs_pattern.specs.Columns.{columns};
 ghost use Rattle.cs_pattern.specs.Lent.{analysis_of, square_of};
-ghost use Rattle.lists.specs.Order.{starts_with};
 ghost use Rattle.cs_pattern.specs.Compare.{same as sameAs, tight, number};
 
 use crate::fill::outline;

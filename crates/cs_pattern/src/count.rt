@@ -1,12 +1,11 @@
 // How many entries each row of U has, that is each column of L: from each stored row of a column up the tree, with a count where an
 // index is marked. An index that is counted in column k is marked by k + 1.
 ghost use Rattle.std.specs.Prelude.{◌≡◌, ◌<◌, ◌≤◌, true, [], length, MatchOption};
-ghost use Rattle.lists.specs.Keeping.{Kept};
+ghost use Rattle.lists.specs.Keeping.{Kept, Zeros};
 ghost use Rattle.lists.specs.Order.{rises};
 ghost use Rattle.cs_matrix.specs.Matrix.{ValidPattern};
 ghost use Rattle.cs_tree.specs.Bumps.{Bumped, Tallied};
 ghost use Rattle.cs_tree.specs.Pattern.{upper, entries};
-ghost use Rattle.lists.specs.Keeping.{Zeros};
 ghost use Rattle.cs_tree.specs.Steps.{Walks, Marks, Given};
 ghost use Rattle.cs_pattern.specs.Columns.{columns};
 ghost use Rattle.cs_pattern.specs.Lent.{square_of};

@@ -5,10 +5,10 @@ ghost use mathlib.Core.List.{flatten};
 ghost use Rattle.lists.proofs.Standing.{Standing};
 ghost use Rattle.lists.specs.Keeping.{Kept};
 ghost use Rattle.lists.specs.Keys.{by_key};
+ghost use Rattle.lists.specs.Order.{starts_with};
 ghost use Rattle.cs_tree.specs.Backward.{Stood};
 ghost use Rattle.cs_tree.specs.Pattern.{transposed, starts, entries};
 ghost use Rattle.cs_tree.specs.Steps.{Whole, Spread, Spreads, numbers};
-ghost use Rattle.lists.specs.Order.{starts_with};
 ghost use Rattle.cs_pattern.specs.Steps.{Looked};
 
 use crate::compare::Analysis;

@@ -1,13 +1,12 @@
 // Whether slices hold the tree and U, told without working a column out: each way up the tree is read from its far end down to
 // its stored row.
 ghost use Rattle.std.specs.Prelude.{◌≡◌, ℕ, suc, ◌+◌, ◌^◌, ◌<◌, ◌≤◌, true, List, [], length, slice_index, IfSome, IsSome};
-ghost use Rattle.lists.specs.Keeping.{Kept};
+ghost use Rattle.lists.specs.Keeping.{Kept, Zeros};
 ghost use Rattle.lists.specs.Order.{rises};
 ghost use Rattle.cs_matrix.specs.Matrix.{ValidPattern};
 ghost use Rattle.cs_tree.specs.Backward.{Stops, Read, Holds};
 ghost use Rattle.cs_tree.specs.Ending.{Unlisted, Ending};
 ghost use Rattle.cs_tree.specs.Pattern.{path, paths};
-ghost use Rattle.lists.specs.Keeping.{Zeros};
 ghost use Rattle.cs_tree.specs.Steps.{Walks, Marks, Given};
 ghost use Rattle.cs_pattern.specs.Columns.{columns};
 ghost use Rattle.cs_pattern.specs.Lent.{square_of};

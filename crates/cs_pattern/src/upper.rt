@@ -1,11 +1,11 @@
 // The columns of U, each laid before the later ones, and with each of them its entries in L.
-ghost use mathlib.Core.List.{flatten};
 ghost use Rattle.std.specs.Prelude.{◌≡◌, length};
+ghost use mathlib.Core.List.{flatten};
 ghost use Rattle.lists.specs.Calls.{onto};
+ghost use Rattle.lists.specs.Keeping.{Zeros};
 ghost use Rattle.cs_matrix.specs.Matrix.{ValidPattern};
 ghost use Rattle.cs_tree.specs.Falling.{Ample};
 ghost use Rattle.cs_tree.specs.Pattern.{upper, lower, starts};
-ghost use Rattle.lists.specs.Keeping.{Zeros};
 ghost use Rattle.cs_tree.specs.Steps.{Given};
 ghost use Rattle.cs_pattern.specs.Columns.{columns};
 ghost use Rattle.cs_pattern.specs.Lent.{square_of};

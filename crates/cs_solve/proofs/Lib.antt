@@ -4,3 +4,4 @@ pub mod Steps
 pub mod Turns
 pub mod Ways
 pub mod Runs
+pub mod Searching

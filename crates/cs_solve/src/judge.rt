@@ -29,12 +29,7 @@ pub fn first_lacking(a: Matrix<'_>) -> Option<usize>
     requires { Valid (matrix_of a) }
     ensures { let a = matrix_of a.entry in let l = lacking_columns a in Names a.pattern.ncols l (first_or 0 l) result }
 {
-    for j in 0..a.pattern.ncols {
-        if lacks(a, j) {
-            return Some(j);
-        }
-    }
-    None
+    (0..a.pattern.ncols).find(|&j| lacks(a, j))
 }
 
 // The highest column whose diagonal is absent or zero.
@@ -42,10 +37,5 @@ pub fn last_lacking(a: Matrix<'_>) -> Option<usize>
     requires { Valid (matrix_of a) }
     ensures { let a = matrix_of a.entry in let l = lacking_columns a in Names a.pattern.ncols l (last_or 0 l) result }
 {
-    for j in (0..a.pattern.ncols).rev() {
-        if lacks(a, j) {
-            return Some(j);
-        }
-    }
-    None
+    (0..a.pattern.ncols).rev().find(|&j| lacks(a, j))
 }

@@ -26,7 +26,7 @@ fn lower_rows(j: usize, x: f64, rows: &[u32], vals: &[f64], b: &mut [f64])
     for (&row, &value) in rows.iter().zip(vals) {
         let i = wide(row);
         if j < i && i < b.len() {
-            b[i] = b[i] - x * value;
+            b[i] -= x * value;
         }
     }
 }
@@ -36,7 +36,7 @@ fn lower_run(x: f64, vals: &[f64], b: &mut [f64])
     ensures { b.new ≡ zipped (λ y v. sub binary64 y (mul binary64 x v)) b.old vals.now }
 {
     for k in 0..vals.len().min(b.len()) {
-        b[k] = b[k] - x * vals[k];
+        b[k] -= x * vals[k];
     }
 }
 

@@ -22,7 +22,7 @@ fn raised(j: usize, rows: &[u32], vals: &[f64], b: &[f64]) -> f64
     for (&row, &value) in rows.iter().zip(vals) {
         let i = wide(row);
         if j < i {
-            y = y - value * b[i];
+            y -= value * b[i];
         }
     }
     y

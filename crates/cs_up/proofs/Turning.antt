@@ -79,9 +79,6 @@ module _ {n k : ℕ} {p i : List ℕ} {v : List Float} {tr up ui lp li : List �
       rise = rw (column-is stored i) (S.valid.pattern.rise k here);
     }
 
-  pub in_p : k + 1 < length p
-  in_p = omega (arith, S.valid.pattern.p_long)
-
   in_us : k < length us
   in_us = omega (arith, S.u_long)
 

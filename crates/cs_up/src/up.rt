@@ -1,5 +1,5 @@
 // The up factoring: each column gives a row of L, whose values stand behind those that their columns have already.
-ghost use Rattle.std.specs.Prelude.{cond, ◌≡◌, ◌+◌, eqb, get_or, set};
+ghost use Rattle.std.specs.Prelude.{◌≡◌, ◌+◌, get_or, set, MatchResult};
 ghost use mathlib.Core.List.{flatten};
 ghost use Rattle.lists.specs.Calls.{none, cleared, scratch, lent, leaves};
 ghost use Rattle.root.specs.Root.{root_of};
@@ -8,7 +8,7 @@ ghost use Rattle.cs_matrix.specs.Matrix.{needed};
 ghost use Rattle.cs_tree.specs.Pattern.{upper, entries};
 ghost use Rattle.cs_pattern.specs.Columns.{columns};
 ghost use Rattle.cs_pattern.specs.Lent.{analysis_of};
-ghost use Rattle.cs_cholesky.specs.Factor.{answer as answer_of, written};
+ghost use Rattle.cs_cholesky.specs.Factor.{answer as answer_of, factored, written};
 ghost use Rattle.cs_up.specs.Lent.{square_of};
 ghost use Rattle.cs_up.specs.Steps.{Closes, Ready, Turns, Gone, Fills};
 ghost use Rattle.cs_up.specs.Up.{up as upOf, number};
@@ -19,7 +19,7 @@ use cs_cholesky::Factored;
 use cs_cholesky::judge::judge;
 use cs_matrix::matrix::{Matrix, Pattern};
 use cs_pattern::compare::Analysis;
-use lists::clear::{clear_scratch, fill as fill_front};
+use lists::clear::{clear_scratch, fill};
 use lists::numbers::wide;
 use lists::refusal::Refusal;
 use root::root;
@@ -58,49 +58,38 @@ fn close(k: usize, pivot: f64, lp: &[u32], lx: &mut [f64], next: &mut [u32])
     next[k] = s + 1;
 }
 
-// All columns, until a pivot stops them.
+// All columns, until a pivot stops them: the answer is then that of the call.
 fn factor(
     a: Matrix<'_>,
     given: Analysis<'_>,
     lx: &mut [f64],
     next: &mut [u32],
     x: &mut [f64],
-) -> Factored
+) -> Result<(), Factored>
     requires { Ready (square_of a) (analysis_of given) lx.old next.old x.old }
     ensures { let f = upOf (square_of a.entry) in
-        (result ≡ f.answer) × (result.number ≡ 0 → lx.new ≡ flatten f.columns) }
+        MatchResult result
+        (λ _. (f.answer ≡ factored 0 0 none) × (lx.new ≡ flatten f.columns))
+        (λ stopped. (stopped ≡ f.answer) × (stopped.number ≡ 11)) }
 {
     let n = a.pattern.ncols;
     let lp = given.lp;
     for k in 0..n {
         let pivot = column(k, a, given, lx, next, x);
         if !(pivot > 0.0) {
-            return Factored {
+            return Err(Factored {
                 number: Refusal::BadPivot.number(),
                 column: k as u32,
                 pivot,
-            };
+            });
         }
         close(k, pivot, lp, lx, next);
     }
-    Factored {
-        number: 0,
-        column: 0,
-        pivot: 0.0,
-    }
+    Ok(())
 }
 
-// By 11 the first t values are +0.0.
-fn blank(number: u32, t: usize, lx: &mut [f64])
-    ensures { lx.new ≡ cond (eqb number 11) (cleared none t lx.old) lx.old }
-{
-    if number == Refusal::BadPivot.number() {
-        fill_front(0.0, t, lx);
-    }
-}
-
-// L's values in lx; the first n places of next and x are used.
-fn fill(
+// L's values in lx, by 11 zeros; the first n places of next and x are used.
+fn work(
     a: Matrix<'_>,
     given: Analysis<'_>,
     lx: &mut [f64],
@@ -115,9 +104,15 @@ fn fill(
 {
     let n = a.pattern.ncols;
     let t = wide(given.lp[n]);
-    let answer = factor(a, given, &mut lx[0..t], &mut next[0..n], &mut x[0..n]);
-    blank(answer.number, t, lx);
-    answer
+    if let Err(stopped) = factor(a, given, &mut lx[0..t], &mut next[0..n], &mut x[0..n]) {
+        fill(0.0, t, lx);
+        return stopped;
+    }
+    Factored {
+        number: 0,
+        column: 0,
+        pivot: 0.0,
+    }
 }
 
 // The up factoring of a matrix by a lent analysis: L's values in lx.
@@ -140,7 +135,7 @@ pub fn decompose_up_looking(
     if let Err(refusal) = judge(a, lx.len(), given, w1, w2, w3, x) {
         return Factored::refused(refusal);
     }
-    let answer = fill(a, given, lx, w1, x);
+    let answer = work(a, given, lx, w1, x);
     clear_scratch(a.pattern.ncols + 1, w1, w2, w3, x);
     answer
 }

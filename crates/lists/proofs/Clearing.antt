@@ -1,6 +1,6 @@
 -- `cleared`: its length, its places, and the loop that clears, over the element type and its zero. Assumes nothing.
 use Rattle.std.proofs.Common.{◌≡◌, ℕ, zero, suc, ◌+◌, ◌<◌, ◌≤◌, min, List, [], ◌∷◌, length, get_or, set, replicate, refl, ap, ◌∙◌, ⊎_elim, add-one}
-use Rattle.std.proofs.Common.{arith, length-set}
+use Rattle.std.proofs.Common.{arith}
 use Rattle.lists.specs.Calls.{cleared}
 use Rattle.lists.proofs.Bools.{le-or-lt}
 

@@ -1,7 +1,7 @@
 -- `falls`: the loop of proofs/Falling.antt that counts. Assumes nothing.
-use Rattle.std.proofs.Common.{◌≡◌, ◌+◌, ◌-◌, get_or, arith}
+use Rattle.std.proofs.Common.{◌≡◌, ◌+◌, ◌-◌, arith}
 use borrow.Author.Tests.{le-leb, lt-leb}
-use Rattle.cs_matrix.specs.Falls.{fallen, falls_at}
+use Rattle.cs_matrix.specs.Falls.{fallen}
 use Rattle.cs_matrix.proofs.Falling.{counting_start, counting_holds, counting_fails, counting_most, counting_done}
 use Rattle.cs_matrix.proofs.check.falls.Goals as goal
 use Rattle.cs_matrix.proofs.check.falls.Goals.{else-rows-k, then-rows-k}

@@ -27,17 +27,18 @@ overflow_add-total c = omega (
   arith,
   c.loop-k.invariant.few,
   tot_small c.requires.1 c.loop-k.invariant (inside c.requires.0 c.loop-k-test.true)
-      (part-is c.requires.0 c.loop-k-test.true c.wide-start.ensures.0 c.wide-end.ensures.0) c.count_column-total.auto.mark c.count_column-total.ensures,
+      (part-is c.requires.0 c.loop-k-test.true c.wide-start.ensures.0 c.wide-end.ensures.0) c.count_column-total.auto.mark
+      c.count_column-total.ensures,
 )
 
 pub returns-then-total-gt-MAX_ENTRIES : goal.returns-then-total-gt-MAX_ENTRIES
 returns-then-total-gt-MAX_ENTRIES c = (
   totting_stop c.requires.1 c.loop-k.invariant (inside c.requires.0 c.loop-k-test.true)
-      (part-is c.requires.0 c.loop-k-test.true c.wide-start.ensures.0 c.wide-end.ensures.0) c.count_column-total.auto.mark c.count_column-total.ensures
-      c.if-total-gt-MAX_ENTRIES.true,
+      (part-is c.requires.0 c.loop-k-test.true c.wide-start.ensures.0 c.wide-end.ensures.0) c.count_column-total.auto.mark
+      c.count_column-total.ensures c.if-total-gt-MAX_ENTRIES.true,
   kept-wider _ (few_columns c.requires.0)
-      (tot_kept c.requires.1 c.loop-k.invariant (inside c.requires.0 c.loop-k-test.true) (part-is c.requires.0 c.loop-k-test.true c.wide-start.ensures.0
-      c.wide-end.ensures.0) c.count_column-total.auto.mark c.count_column-total.ensures),
+      (tot_kept c.requires.1 c.loop-k.invariant (inside c.requires.0 c.loop-k-test.true)
+      (part-is c.requires.0 c.loop-k-test.true c.wide-start.ensures.0 c.wide-end.ensures.0) c.count_column-total.auto.mark c.count_column-total.ensures),
 )
 
 pub loop-k-preserved : goal.loop-k-preserved

@@ -13,10 +13,12 @@ pub loop-k-init : goal.loop-k-init
 loop-k-init c = falling_start c.requires.1 (columns_long c.requires.0) (as_many c.requires.0 c.requires.2) c.requires.3 c.requires.4
 
 pub slice_bounds-lay-end : goal.slice_bounds-lay-end
-slice_bounds-lay-end c = (falls_here c.requires.0 c.requires.1 c.loop-k.invariant c.loop-k-test.true c.wide-start.ensures.0 c.wide-end.ensures.0).inside
+slice_bounds-lay-end c =
+    (falls_here c.requires.0 c.requires.1 c.loop-k.invariant c.loop-k-test.true c.wide-start.ensures.0 c.wide-end.ensures.0).inside
 
 pub lay-low-requires : goal.lay-low-requires
-lay-low-requires c = falls_asks c.requires.0 c.requires.1 c.loop-k.invariant c.loop-k-test.true c.wide-start.ensures.0 c.wide-end.ensures.0 (omega arith)
+lay-low-requires c = falls_asks c.requires.0 c.requires.1 c.loop-k.invariant c.loop-k-test.true c.wide-start.ensures.0 c.wide-end.ensures.0
+    (omega arith)
 
 pub offset_bounds-ui-low : goal.offset_bounds-ui-low
 offset_bounds-ui-low c = omega (
@@ -27,8 +29,8 @@ offset_bounds-ui-low c = omega (
 )
 
 pub slice_bounds-lower_column-end : goal.slice_bounds-lower_column-end
-slice_bounds-lower_column-end c = falls-end c.requires.0 c.requires.1 c.loop-k.invariant c.loop-k-test.true c.wide-start.ensures.0 c.wide-end.ensures.0
-    (omega arith) c.lay-low.auto.out c.lay-low.ensures
+slice_bounds-lower_column-end c = falls-end c.requires.0 c.requires.1 c.loop-k.invariant c.loop-k-test.true c.wide-start.ensures.0
+    c.wide-end.ensures.0 (omega arith) c.lay-low.auto.out c.lay-low.ensures
 
 pub lower_column-requires : goal.lower_column-requires
 lower_column-requires c = falls-last c.requires.0 c.requires.1 c.loop-k.invariant c.loop-k-test.true c.wide-start.ensures.0 c.wide-end.ensures.0

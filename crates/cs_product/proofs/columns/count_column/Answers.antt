@@ -1,6 +1,5 @@
 -- `count_column`: what proofs/Remaining.antt says of the rows that were met. Assumes nothing.
-use native.Mathlib.Omega.{arith}
-use Rattle.cs_product.proofs.Remaining.{many_in, drain, column-counted}
+use Rattle.cs_product.proofs.Remaining.{column-counted}
 use Rattle.cs_product.proofs.columns.count_column.Goals as goal
 
 pub returns : goal.returns

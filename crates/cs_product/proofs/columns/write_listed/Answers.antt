@@ -1,7 +1,6 @@
 -- `write_listed`: what proofs/Remaining.antt says of the rows that were met, sorted. Assumes nothing.
-use mathlib.Core.Path.{refl, sym, ◌∙◌}
-use native.Mathlib.Omega.{arith}
-use Rattle.cs_product.proofs.Remaining.{many_in, loose, met_long, column_taking, column-written}
+use mathlib.Core.Path.{refl}
+use Rattle.cs_product.proofs.Remaining.{column_taking, column-written}
 use Rattle.cs_product.proofs.columns.write_listed.Goals as goal
 
 pub gather-requires : goal.gather-requires

@@ -1,6 +1,6 @@
 -- `count_remaining`: the loop of proofs/Draining.antt. Assumes nothing.
 use native.Mathlib.Omega.{arith}
-use Rattle.cs_product.proofs.Draining.{counting_start, counting_small, counting_on, counting_off, counting_done, r_in_x}
+use Rattle.cs_product.proofs.Draining.{counting_start, counting_small, counting_on, counting_off, counting_done}
 use Rattle.cs_product.proofs.gather.count_remaining.Goals as goal
 use Rattle.cs_product.proofs.gather.count_remaining.Goals.{else-x-r, then-x-r}
 

@@ -1,8 +1,8 @@
 -- `gather`: the loop of proofs/Draining.antt. Assumes nothing.
 use mathlib.Core.Path.{sym}
 use native.Mathlib.Omega.{arith}
-use Rattle.cs_product.proofs.Draining.{gathering_start, gathering_small, gathering_i, gathering_v, gathering_on, gathering_off, gathering_done}
-use Rattle.cs_product.proofs.Draining.{at-in_i, at-in_v, r_in_x}
+use Rattle.cs_product.proofs.Draining.{gathering_start, gathering_small, gathering_on, gathering_off, gathering_done}
+use Rattle.cs_product.proofs.Draining.{at-in_i, at-in_v}
 use Rattle.cs_product.proofs.gather.gather.Goals as goal
 use Rattle.cs_product.proofs.gather.gather.Goals.{else-x-r, then-x-r}
 

@@ -1,31 +1,28 @@
 -- `fill`: the loop of proofs/Produced.antt. Assumes nothing.
-use mathlib.Core.Path.{◌∙◌}
 use native.Mathlib.Omega.{arith}
-use lib.ListN.{length-set}
-use Rattle.cs_product.proofs.Produced.{writing_start, writing_small, writing_p, writing_last, writing_i, writing_v, writing_handed, writing_bv}
+use Rattle.cs_product.proofs.Produced.{writing_start, writing_small, writing_handed, writing_bv}
 use Rattle.cs_product.proofs.Produced.{writing_asks, writing_turn, writing_done}
-use Rattle.cs_product.proofs.Meeting.{x_long}
 use Rattle.cs_product.proofs.product.fill.Goals as goal
 
 pub loop-j-init : goal.loop-j-init
-loop-j-init c = writing_start _ _ _ _ _ _ _ _ _ c.requires
+loop-j-init c = writing_start _ _ c.requires
 
 pub overflow_cast-op : goal.overflow_cast-op
-overflow_cast-op c = omega (arith, writing_small _ _ _ _ _ _ _ _ _ c.loop-j.invariant)
+overflow_cast-op c = omega (arith, writing_small _ _ c.loop-j.invariant)
 
 pub slice_bounds-write_column-end : goal.slice_bounds-write_column-end
-slice_bounds-write_column-end c = (writing_handed _ _ _ _ _ _ _ _ _ c.loop-j.invariant c.loop-j-test.true c.wide-a.ensures.0
-    c.wide-e.ensures.0).inside
+slice_bounds-write_column-end c = (writing_handed _ _ c.loop-j.invariant c.loop-j-test.true c.wide-start.ensures.0
+    c.wide-end.ensures.0).inside
 
 pub slice_bounds-write_column-end-in-loop-j : goal.slice_bounds-write_column-end-in-loop-j
-slice_bounds-write_column-end-in-loop-j c = writing_bv _ _ _ _ _ _ _ _ _ c.loop-j.invariant c.loop-j-test.true c.wide-a.ensures.0 c.wide-e.ensures.0
+slice_bounds-write_column-end-in-loop-j c = writing_bv _ _ c.loop-j.invariant c.loop-j-test.true c.wide-start.ensures.0 c.wide-end.ensures.0
 
 pub write_column-at-requires : goal.write_column-at-requires
-write_column-at-requires c = writing_asks _ _ _ _ _ _ _ _ _ c.loop-j.invariant c.loop-j-test.true c.wide-a.ensures.0 c.wide-e.ensures.0
+write_column-at-requires c = writing_asks _ _ c.loop-j.invariant c.loop-j-test.true c.wide-start.ensures.0 c.wide-end.ensures.0
 
 pub loop-j-preserved : goal.loop-j-preserved
-loop-j-preserved c = writing_turn _ _ _ _ _ _ _ _ _ c.loop-j.invariant c.loop-j-test.true c.wide-a.ensures.0 c.wide-e.ensures.0
+loop-j-preserved c = writing_turn _ _ c.loop-j.invariant c.loop-j-test.true c.wide-start.ensures.0 c.wide-end.ensures.0
     c.write_column-at.auto.spare c.write_column-at.ensures.0 c.write_column-at.ensures.1 c.write_column-at.ensures.2 c.write_column-at.ensures.3
 
 pub returns : goal.returns
-returns c = writing_done _ _ _ _ _ _ _ _ _ c.loop-j.invariant c.loop-j-test.false
+returns c = writing_done _ _ c.loop-j.invariant c.loop-j-test.false

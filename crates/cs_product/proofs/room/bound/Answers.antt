@@ -1,20 +1,19 @@
 -- `bound`: the loop of proofs/Produced.antt. Assumes nothing.
-use native.Mathlib.Omega.{arith}
-use Rattle.cs_product.proofs.Produced.{bounding_start, bounding_handed, bounding_asks, bounding_small, bounding_turn, bounding_done}
+use Rattle.cs_product.proofs.Produced.{bounding_start, bounding_handed, bounding_asks, bounding_turn, bounding_done}
 use Rattle.cs_product.proofs.room.bound.Goals as goal
 
 pub loop-j-init : goal.loop-j-init
-loop-j-init c = bounding_start _ _ _ _ _ _ _ _ _ c.requires
+loop-j-init c = bounding_start _ _ c.requires
 
 pub slice_bounds-span_of-end : goal.slice_bounds-span_of-end
-slice_bounds-span_of-end c = (bounding_handed _ _ _ _ _ _ _ _ _ c.loop-j.invariant c.loop-j-test.true c.wide-a.ensures.0 c.wide-e.ensures.0).inside
+slice_bounds-span_of-end c = (bounding_handed _ _ c.loop-j.invariant c.loop-j-test.true c.wide-start.ensures.0 c.wide-end.ensures.0).inside
 
-pub span_of-s-requires : goal.span_of-s-requires
-span_of-s-requires c = bounding_asks _ _ _ _ _ _ _ _ _ c.loop-j.invariant c.loop-j-test.true c.wide-a.ensures.0 c.wide-e.ensures.0
+pub span_of-span-requires : goal.span_of-span-requires
+span_of-span-requires c = bounding_asks _ _ c.loop-j.invariant c.loop-j-test.true c.wide-start.ensures.0 c.wide-end.ensures.0
 
 pub loop-j-preserved : goal.loop-j-preserved
-loop-j-preserved c = bounding_turn _ _ _ _ _ _ _ _ _ c.loop-j.invariant c.loop-j-test.true c.wide-a.ensures.0 c.wide-e.ensures.0 c.span_of-s.ensures
-    c.smaller-most.ensures
+loop-j-preserved c = bounding_turn _ _ c.loop-j.invariant c.loop-j-test.true c.wide-start.ensures.0 c.wide-end.ensures.0 c.span_of-span.ensures
+    c.min-most.ensures
 
 pub returns : goal.returns
-returns c = bounding_done _ _ _ _ _ _ _ _ _ c.loop-j.invariant c.loop-j-test.false
+returns c = bounding_done _ _ c.loop-j.invariant c.loop-j-test.false

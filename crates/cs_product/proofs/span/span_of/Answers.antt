@@ -1,25 +1,24 @@
 -- `span_of`: the loop of proofs/Spanning.antt. Assumes nothing.
-use native.Mathlib.Omega.{arith}
-use Rattle.cs_product.proofs.Spanning.{spanning_start, spanning_done, spanning_on, spanning_off, col_below, col_in_p, first-in, last-in}
+use Rattle.cs_product.proofs.Spanning.{spanning_done, spanning_on, spanning_off, first-in, last-in}
 use Rattle.cs_product.proofs.span.span_of.Goals as goal
-use Rattle.cs_product.proofs.span.span_of.Goals.{else-a-e, then-a-e}
+use Rattle.cs_product.proofs.span.span_of.Goals.{else-start-end, then-start-end}
 
-pub bounds-i-a : goal.bounds-i-a
-bounds-i-a c = first-in _ _ _ _ _ c.loop-col.invariant c.loop-col-test.true c.wide-c.ensures.0 c.wide-a.ensures.0 c.wide-e.ensures.0 c.if-a-e.true
+pub bounds-i-start : goal.bounds-i-start
+bounds-i-start c = first-in _ _ c.loop-col.invariant c.loop-col-test.true c.wide-c.ensures.0 c.wide-start.ensures.0 c.wide-end.ensures.0 c.if-start-end.true
 
-pub bounds-i-e : goal.bounds-i-e
-bounds-i-e c = last-in _ _ _ _ _ c.loop-col.invariant c.loop-col-test.true c.wide-c.ensures.0 c.wide-a.ensures.0 c.wide-e.ensures.0 c.if-a-e.true
+pub bounds-i-end : goal.bounds-i-end
+bounds-i-end c = last-in _ _ c.loop-col.invariant c.loop-col-test.true c.wide-c.ensures.0 c.wide-start.ensures.0 c.wide-end.ensures.0 c.if-start-end.true
 
 pub loop-col-preserved : goal.loop-col-preserved
 loop-col-preserved c =
     let v = c.loop-col.invariant in
     let h = c.loop-col-test.true in
-    elim c.if-a-e.branch [
-      | then-a-e t ↦ rw (t.lo-is, t.hi-is, t.work-is) (spanning_on _ _ _ _ _ v h c.wide-c.ensures.0 c.wide-a.ensures.0
-          c.wide-e.ensures.0 t.if-a-e.true t.wide.ensures.0 t.wide-then-a-e.ensures.0 t.smaller-lo.ensures t.larger-hi.ensures)
-      | else-a-e t ↦
-          rw (t.lo-is, t.hi-is, t.work-is) (spanning_off _ _ _ _ _ v h c.wide-c.ensures.0 c.wide-a.ensures.0 c.wide-e.ensures.0 t.if-a-e.false)
+    elim c.if-start-end.branch [
+      | then-start-end t ↦ rw (t.lo-is, t.hi-is, t.work-is) (spanning_on _ _ v h c.wide-c.ensures.0 c.wide-start.ensures.0
+          c.wide-end.ensures.0 t.if-start-end.true t.wide.ensures.0 t.wide-then-start-end.ensures.0 t.min-lo.ensures t.max-hi.ensures)
+      | else-start-end t ↦
+          rw (t.lo-is, t.hi-is, t.work-is) (spanning_off _ _ v h c.wide-c.ensures.0 c.wide-start.ensures.0 c.wide-end.ensures.0 t.if-start-end.false)
     ]
 
 pub returns : goal.returns
-returns c = spanning_done _ _ _ _ _ c.loop-col.invariant c.loop-col-test.false c.smaller.ensures
+returns c = spanning_done _ _ c.loop-col.invariant c.loop-col-test.false c.min.ensures

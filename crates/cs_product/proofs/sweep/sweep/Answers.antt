@@ -1,7 +1,7 @@
 -- `sweep`: the loop of proofs/Sweeping.antt. Assumes nothing.
 use native.Mathlib.Omega.{arith}
-use Rattle.cs_product.proofs.Sweeping.{sweeping_start, sweeping_small, sweeping_i, sweeping_v, sweeping_on, sweeping_off, sweeping_done, at-in_i}
-use Rattle.cs_product.proofs.Sweeping.{at-in_v, r_in, r_small}
+use Rattle.cs_product.proofs.Sweeping.{sweeping_start, sweeping_small, sweeping_on, sweeping_off, sweeping_done, at-in_i}
+use Rattle.cs_product.proofs.Sweeping.{at-in_v}
 use Rattle.cs_product.proofs.sweep.sweep.Goals as goal
 use Rattle.cs_product.proofs.sweep.sweep.Goals.{else-x-r, then-x-r}
 

@@ -1,22 +1,15 @@
--- `first_lacking`: the walk that looks for the first. Assumes nothing.
-use Rattle.std.proofs.Common.{arith, sym, ◌∙◌}
-use Rattle.lists.proofs.Choices.{upward_start, upward_turn, upward_found, upward_end}
+-- `first_lacking`: `find` of proofs/Searching.antt, rising. Assumes nothing.
+use Rattle.std.proofs.Common.{rules, arith}
+use Rattle.std.proofs.lemmas.Iterator.{YieldsList-from_range}
+use Rattle.std.proofs.lemmas.Iterator.Search.{find_from_yields_List}
+use borrow.Author.Tests.{tests}
+use Rattle.cs_matrix.specs.Lent.{matrix_of}
+use Rattle.cs_solve.specs.Diagonal.{lacking}
 use Rattle.cs_solve.specs.Judge.{lacking_columns}
+use Rattle.cs_solve.proofs.Searching.{first_found}
 use Rattle.cs_solve.proofs.judge.first_lacking.Goals as goal
-
-pub loop-j-init : goal.loop-j-init
-loop-j-init c = upward_start _ _
-
-pub returns-then-lacks : goal.returns-then-lacks
-unfolding lacking_columns
-returns-then-lacks c =
-    let h = c.loop-j-test.true in
-    let f = upward_found c.loop-j.invariant h (sym c.lacks.ensures ∙ c.if-lacks.true) in
-    ((f.found h).0, (f.found h).1, h)
-
-pub loop-j-preserved : goal.loop-j-preserved
-loop-j-preserved c = upward_turn c.loop-j.invariant c.loop-j-test.true (sym c.lacks.ensures ∙ c.if-lacks.false)
 
 pub returns : goal.returns
 unfolding lacking_columns
-returns c = (upward_end c.loop-j.invariant c.loop-j-test.false).none (omega arith)
+returns c = first_found _ _ _ (find_from_yields_List (lacking (matrix_of c.args.a)) _ _ c.find.result c.find.ensures.ran
+    (YieldsList-from_range 0 c.args.a.pattern.ncols c.args.a.pattern.ncols (search rules) (omega arith)) (λ x b q k. search (rules, tests)))

@@ -1,22 +1,14 @@
--- `last_lacking`: the walk that looks for the last. Assumes nothing.
-use Rattle.std.proofs.Common.{arith, sym, ◌∙◌}
-use Rattle.lists.proofs.Choices.{k_below, downward_turn, downward_found, downward_end}
+-- `last_lacking`: `find` of proofs/Searching.antt, falling. Assumes nothing.
+use Rattle.std.proofs.Common.{rules}
+use Rattle.std.proofs.lemmas.Iterator.Search.{find_from_yields_List}
+use borrow.Author.Tests.{tests}
+use Rattle.cs_matrix.specs.Lent.{matrix_of}
+use Rattle.cs_solve.specs.Diagonal.{lacking}
 use Rattle.cs_solve.specs.Judge.{lacking_columns}
+use Rattle.cs_solve.proofs.Searching.{downward, last_found}
 use Rattle.cs_solve.proofs.judge.last_lacking.Goals as goal
-
-pub lacks-requires : goal.lacks-requires
-lacks-requires c = (c.requires, k_below c.loop-j.invariant c.loop-j-test.true)
-
-pub returns-then-lacks : goal.returns-then-lacks
-unfolding lacking_columns
-returns-then-lacks c =
-    let h = k_below c.loop-j.invariant c.loop-j-test.true in
-    let f = downward_found c.loop-j.invariant c.loop-j-test.true (sym c.lacks.ensures ∙ c.if-lacks.true) in
-    ((f.found h).0, (f.found h).1, h)
-
-pub loop-j-preserved : goal.loop-j-preserved
-loop-j-preserved c = downward_turn c.loop-j.invariant c.loop-j-test.true (sym c.lacks.ensures ∙ c.if-lacks.false)
 
 pub returns : goal.returns
 unfolding lacking_columns
-returns c = (downward_end c.loop-j.invariant (omega (arith, c.loop-j-test.false))).none (omega arith)
+returns c = last_found _ _ _ (find_from_yields_List (lacking (matrix_of c.args.a)) _ _ c.find.result c.find.ensures.ran
+    (downward c.args.a.pattern.ncols c.rev.ensures.source) (λ x b q k. search (rules, tests)))

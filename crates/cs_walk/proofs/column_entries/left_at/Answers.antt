@@ -1,6 +1,6 @@
 -- `left_at`: an entry is at the position, or nothing is left. Assumes nothing.
 use native.Mathlib.Omega.{arith}
-use Rattle.cs_walk.proofs.Walking.{there, nothing_left, length-end, length_here}
+use Rattle.cs_walk.proofs.Walking.{there, length_here}
 use Rattle.cs_walk.proofs.column_entries.left_at.Goals as goal
 
 pub overflow_sub-result : goal.overflow_sub-result
