@@ -3,13 +3,14 @@ use mathlib.Core.List.{List}
 use mathlib.Core.Path.{◌≡◌, refl, sym, ◌∙◌}
 use Prim.Native.Nat.{ℕ, ◌+◌, ◌≤◌, ◌<◌}
 use native.Mathlib.Omega.{arith}
-use lib.Ieee.{Float}
+use lib.Ieee.{Float, eq}
 use lib.ListN.{length, get_or}
 use Rattle.lists.specs.Parts.{part}
 use Rattle.lists.proofs.Parts.{part-below as below-part}
 use Rattle.cs_matrix.specs.Matrix.{Matrix, Valid, value_at}
 use Rattle.cs_matrix.proofs.Pointers.{between, column-is, length-column}
-use Rattle.cs_solve.specs.Diagonal.{diagonal, IsColumn}
+use Rattle.lists.specs.Calls.{none}
+use Rattle.cs_solve.specs.Diagonal.{diagonal, lacking, IsColumn}
 
 module _ {a : Matrix} (w : Valid a) {j : ℕ} (h : j < a.pattern.ncols) where
   pub j_small : j < 65535
@@ -39,3 +40,9 @@ module _ {a : Matrix} (w : Valid a) {j : ℕ} (h : j < a.pattern.ncols) where
 pub diagonal-is : {a : Matrix} {j : ℕ} {rows : List ℕ} {vals : List Float} {d : Float} → IsColumn a j rows vals → d ≡ value_at j rows vals → d ≡ diagonal a j
 unfolding diagonal
 diagonal-is c q = q ∙ (rw (c.rows_are, c.vals_are))
+
+-- whether it is zero
+pub lacking-is : {a : Matrix} {j : ℕ} {rows : List ℕ} {vals : List Float} {d : Float} → IsColumn a j rows vals → d ≡ value_at j rows vals
+    → eq d none ≡ lacking a j
+unfolding lacking
+lacking-is c q = rw (← diagonal-is c q)

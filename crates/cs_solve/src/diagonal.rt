@@ -8,7 +8,7 @@ use cs_matrix::matrix::{Matrix, Pattern};
 use lists::numbers::wide;
 
 // The rows of column j, and their values.
-pub fn column<'a>(a: Matrix<'a>, j: usize) -> (&'a [u32], &'a [f64])
+pub(crate) fn column<'a>(a: Matrix<'a>, j: usize) -> (&'a [u32], &'a [f64])
     requires { Valid (matrix_of a) × (j < a.pattern.ncols) }
     ensures { IsColumn (matrix_of a.entry) j result.0.now result.1.now }
 {
@@ -32,7 +32,7 @@ pub fn value_at(j: usize, rows: &[u32], vals: &[f64]) -> f64
 }
 
 // The diagonal of column j is absent or zero.
-pub fn lacks(a: Matrix<'_>, j: usize) -> bool
+pub(crate) fn lacks(a: Matrix<'_>, j: usize) -> bool
     requires { Valid (matrix_of a) × (j < a.pattern.ncols) }
     ensures { result ≡ lacking (matrix_of a.entry) j }
 {

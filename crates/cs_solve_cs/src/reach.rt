@@ -8,8 +8,9 @@ ghost use Rattle.cs_solve.specs.Judge.{Names};
 ghost use Rattle.cs_solve_cs.specs.Reach.{reached};
 ghost use Rattle.cs_solve_cs.specs.Steps.{mark_all, marks};
 
+use crate::steps::column;
 use cs_matrix::matrix::Matrix;
-use cs_solve::diagonal::{column, lacks};
+use cs_solve::diagonal::value_at;
 use lists::numbers::wide;
 
 // Marks each of the rows that is not below `from`.
@@ -45,10 +46,10 @@ pub fn reach(a: Matrix<'_>, bi: &[u32], w: &mut [u32]) -> Swept
     for j in 0..a.pattern.ncols {
         if w[j] != 0 {
             count += 1;
-            if lacking.is_none() && lacks(a, j) {
+            let (rows, vals) = column(a, j);
+            if lacking.is_none() && value_at(j, rows, vals) == 0.0 {
                 lacking = Some(j);
             }
-            let (rows, _) = column(a, j);
             mark(j + 1, rows, w);
         }
     }

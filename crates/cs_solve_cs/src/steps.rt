@@ -5,14 +5,27 @@ ghost use Rattle.lists.specs.Calls.{onto};
 ghost use Rattle.lists.specs.Folds.{along, over};
 ghost use Rattle.cs_matrix.specs.Lent.{matrix_of};
 ghost use Rattle.cs_matrix.specs.Matrix.{Valid};
+ghost use Rattle.cs_solve.specs.Diagonal.{IsColumn};
 ghost use Rattle.cs_solve.specs.Solve.{forward_column};
 ghost use Rattle.cs_solve_cs.specs.SolveCs.{put_at};
 ghost use Rattle.cs_solve_cs.specs.Steps.{marks, Room};
 
-use cs_matrix::matrix::Matrix;
-use cs_solve::diagonal::{column, value_at};
+use cs_matrix::matrix::{Matrix, Pattern};
+use cs_solve::diagonal::value_at;
 use cs_solve::solve::forward_at;
 use lists::numbers::wide;
+
+// The rows of column j, and their values. cs_solve has the same; it asks something, so that it cannot be public there.
+pub fn column<'a>(a: Matrix<'a>, j: usize) -> (&'a [u32], &'a [f64])
+    requires { Valid (matrix_of a) × (j < a.pattern.ncols) }
+    ensures { IsColumn (matrix_of a.entry) j result.0.now result.1.now }
+{
+    let Matrix { pattern, v } = a;
+    let Pattern { p, i, .. } = pattern;
+    let s = wide(p[j]);
+    let e = wide(p[j + 1]);
+    (&i[s..e], &v[s..e])
+}
 
 // Each value at its row.
 pub fn put(rows: &[u32], vals: &[f64], x: &mut [f64])
