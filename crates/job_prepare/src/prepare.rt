@@ -75,13 +75,9 @@ pub fn prepare(
         (numbered result ≡ number t) × (new ≡ leaves t old) × (numbered result ≡ 0 → Assembled t)) }
 {
     assemble(t, p, i, v)?;
-    let pointers = t.ncols + 1;
-    let entries = wide(p[t.ncols]);
-    let a = Pattern {
-        nrows: t.nrows,
-        ncols: t.ncols,
-        p: &p[..pointers],
-        i: &i[..entries],
-    };
+    let Triplets { nrows, ncols, .. } = t;
+    let i = &i[..wide(p[ncols])];
+    let p = &p[..=ncols];
+    let a = Pattern { nrows, ncols, p, i };
     analyse(a, tree, up, ui, lp, li)
 }

@@ -13,22 +13,22 @@ returns-in_err-assemble c = rw (passed_on _ _ c.from_residual.ensures.1) (prepar
     (stored c.args.p.now c.args.i.now c.args.v.now) (stored c.assemble.new.p c.assemble.new.i c.assemble.new.v)
     (analysis c.args.tree.now c.args.up.now c.args.ui.now c.args.lp.now c.args.li.now) _ (refusal-some _) c.in_err-assemble.ensures)
 
-pub overflow_add-pointers : goal.overflow_add-pointers
-overflow_add-pointers c = omega (arith, (prepared_asks (triplets_of c.args.t) _ _ _ _ _ _ _ refl c.in_ok-assemble.ensures).0)
+pub offset_bounds-p-ncols : goal.offset_bounds-p-ncols
+offset_bounds-p-ncols c = omega (arith, (prepared_asks (triplets_of c.args.t) _ _ _ _ _ _ _ refl c.in_ok-assemble.ensures).0)
 
-pub offset_bounds-p-t : goal.offset_bounds-p-t
-offset_bounds-p-t c = omega (arith, (prepared_asks (triplets_of c.args.t) _ _ _ _ _ _ _ refl c.in_ok-assemble.ensures).0)
+pub bounds-p-ncols : goal.bounds-p-ncols
+bounds-p-ncols c = omega (arith, (prepared_asks (triplets_of c.args.t) _ _ _ _ _ _ _ refl c.in_ok-assemble.ensures).0)
 
-pub bounds-p-t : goal.bounds-p-t
-bounds-p-t c = omega (arith, (prepared_asks (triplets_of c.args.t) _ _ _ _ _ _ _ refl c.in_ok-assemble.ensures).0)
+pub shared_ref_as_front-i : goal.shared_ref_as_front-i
+shared_ref_as_front-i c = omega (arith, (prepared_asks (triplets_of c.args.t) _ _ _ _ _ _ _ refl c.in_ok-assemble.ensures).1, c.wide.ensures.0)
 
-pub shared_ref_as_front-a : goal.shared_ref_as_front-a
-shared_ref_as_front-a c = omega (arith, (prepared_asks (triplets_of c.args.t) _ _ _ _ _ _ _ refl c.in_ok-assemble.ensures).0)
+pub overflow_add-p : goal.overflow_add-p
+overflow_add-p c = omega (arith, (prepared_asks (triplets_of c.args.t) _ _ _ _ _ _ _ refl c.in_ok-assemble.ensures).0)
 
-pub shared_ref_as_front-a-2 : goal.shared_ref_as_front-a-2
-shared_ref_as_front-a-2 c = omega (arith, (prepared_asks (triplets_of c.args.t) _ _ _ _ _ _ _ refl c.in_ok-assemble.ensures).1, c.wide-entries.ensures.0)
+pub shared_ref_as_front-p : goal.shared_ref_as_front-p
+shared_ref_as_front-p c = omega (arith, (prepared_asks (triplets_of c.args.t) _ _ _ _ _ _ _ refl c.in_ok-assemble.ensures).0)
 
 pub returns : goal.returns
 returns c = prepared_analysed (triplets_of c.args.t) c.args.p.now c.args.i.now c.args.v.now
     c.assemble.new.p c.assemble.new.i c.assemble.new.v _ refl
-    c.in_ok-assemble.ensures (analysis c.args.tree.now c.args.up.now c.args.ui.now c.args.lp.now c.args.li.now) _ _ _ c.wide-entries.ensures.0 c.analyse.ensures
+    c.in_ok-assemble.ensures (analysis c.args.tree.now c.args.up.now c.args.ui.now c.args.lp.now c.args.li.now) _ _ _ c.wide.ensures.0 c.analyse.ensures
