@@ -1,10 +1,12 @@
 -- What the reader leaves in the arrays lent to it, and what it answers. Assumes nothing.
-use Rattle.std.specs.Prelude.{◌≡◌, List, ℕ, ◌≤◌, Float, length}
+use Rattle.std.specs.Prelude.{◌≡◌, List, ℕ, ◌≤◌, Float, Result, Ok, Err, length}
 use Rattle.lists.specs.Calls.{onto}
+use Rattle.lists.specs.Refusals.{number_of}
 use Rattle.job_file.specs.Faults.{Job}
 use Rattle.job_file.specs.Reading.{Outcome}
-use Rattle.job_file.specs.declared.read.Answer.{Answer}
-use Rattle.job_file.specs.Told.{place_of, engine_of}
+use Rattle.job_file.specs.declared.read.Sound.{Sound}
+use Rattle.job_file.specs.declared.read.Fault.{Fault}
+use Rattle.job_file.specs.Told.{byte, place_of, engine_of}
 
 pub record Arrays : Type 0 where
   pub rows : List ℕ
@@ -32,11 +34,16 @@ pub record Said : Type 0 where
   pub number : ℕ
   pub head : Numbers
 
-abbrev pub said : Answer → Said
-said a =
-    let h = a.head in
+abbrev pub said : Result Sound Fault → Said
+said (Ok s) =
     record {
-      number = a.number;
+      number = 0;
+      head = record { stage = 2; n = s.n; count = s.count; entries = s.entries; next = s.next; engine = byte s.engine };
+    }
+said (Err f) =
+    let h = f.head in
+    record {
+      number = number_of f.refusal;
       head = record {
         stage = place_of h.stage;
         n = h.n;

@@ -1,7 +1,8 @@
-// The number of a record where it stands, one record kind a function.
+// What refuses a record where it stands, one record kind a function.
 ghost use Rattle.std.specs.Prelude.{◌≡◌, ◌==◌, ◌&&◌, [], ℕ, ◌≤◌, length};
 ghost use Rattle.std.specs.List.{list_any, zip};
 ghost use Rattle.job_file.specs.Records.{SZ, EN, RH, GO};
+ghost use Rattle.lists.specs.Refusals.{numbered};
 ghost use Rattle.job_file.specs.Faults.{fault as faultOf};
 ghost use Rattle.job_file.specs.Arrays.{arrays};
 ghost use Rattle.job_file.specs.Told.{byte, told};
@@ -10,17 +11,18 @@ ghost use Rattle.job_file.specs.Keeping.{held_by, Judged};
 use crate::read::{Engine, Head, Stage};
 use crate::record::Found;
 use lists::numbers::wide;
+use lists::refusal::Refusal;
 
-fn size_fault(h: Head, n: u32, count: u32) -> u32
-    ensures { Judged h (SZ n count) result }
+fn size_fault(h: Head, n: u32, count: u32) -> Result<(), Refusal>
+    ensures { Judged h (SZ n count) (numbered result) }
 {
     if h.stage != Stage::Start {
-        return 12;
+        return Err(Refusal::Malformed);
     }
     if n > 256 || count > 2048 {
-        return 1;
+        return Err(Refusal::TooLarge);
     }
-    0
+    Ok(())
 }
 
 // One of the places is (row, column).
@@ -32,51 +34,51 @@ fn is_given(row: u32, column: u32, rows: &[u32], columns: &[u32]) -> bool
         .any(|(&x, &y)| x == row && y == column)
 }
 
-fn entry_fault(h: Head, row: u32, column: u32, rows: &[u32], columns: &[u32]) -> u32
+fn entry_fault(h: Head, row: u32, column: u32, rows: &[u32], columns: &[u32]) -> Result<(), Refusal>
     requires { (h.entries ≤ length rows.now) × (h.entries ≤ length columns.now) }
-    ensures { (bits : ℕ) → result ≡ faultOf (held_by h (arrays rows.now columns.now [] [])) (EN row column bits) }
+    ensures { (bits : ℕ) → numbered result ≡ faultOf (held_by h (arrays rows.now columns.now [] [])) (EN row column bits) }
 {
     if h.stage != Stage::Sized || h.entries == h.count {
-        return 12;
+        return Err(Refusal::Malformed);
     }
     if row >= h.n || column >= h.n {
-        return 4;
+        return Err(Refusal::OutOfRange);
     }
     let given = wide(h.entries);
     if is_given(row, column, &rows[..given], &columns[..given]) {
-        return 9;
+        return Err(Refusal::Misplaced);
     }
-    0
+    Ok(())
 }
 
-fn right_fault(h: Head, row: u32) -> u32
-    ensures { (bits : ℕ) → Judged h (RH row bits) result }
+fn right_fault(h: Head, row: u32) -> Result<(), Refusal>
+    ensures { (bits : ℕ) → Judged h (RH row bits) (numbered result) }
 {
     if h.stage != Stage::Sized || h.entries != h.count {
-        return 12;
+        return Err(Refusal::Malformed);
     }
     if row >= h.n {
-        return 4;
+        return Err(Refusal::OutOfRange);
     }
     if row < h.next {
-        return 5;
+        return Err(Refusal::NotRising);
     }
-    0
+    Ok(())
 }
 
-fn go_fault(h: Head, engine: Engine) -> u32
-    ensures { Judged h (GO (byte engine)) result }
+fn go_fault(h: Head, engine: Engine) -> Result<(), Refusal>
+    ensures { Judged h (GO (byte engine)) (numbered result) }
 {
     if h.stage != Stage::Sized || h.entries != h.count {
-        return 12;
+        return Err(Refusal::Malformed);
     }
-    0
+    Ok(())
 }
 
-// The number of a record where it stands, 0 for none.
-pub(crate) fn fault(r: Found, h: Head, rows: &[u32], columns: &[u32]) -> u32
+// What refuses a record where it stands, or nothing.
+pub(crate) fn fault(r: Found, h: Head, rows: &[u32], columns: &[u32]) -> Result<(), Refusal>
     requires { (h.entries ≤ length rows.now) × (h.entries ≤ length columns.now) }
-    ensures { result ≡ faultOf (held_by h (arrays rows.now columns.now [] [])) (told r) }
+    ensures { numbered result ≡ faultOf (held_by h (arrays rows.now columns.now [] [])) (told r) }
 {
     match r {
         Found::Size { n, count } => size_fault(h, n, count),

@@ -8,7 +8,7 @@ ghost use Rattle.job_file.specs.Keeping.{held_by, Fits, Kept};
 use crate::read::{Head, Stage};
 use crate::record::Found;
 use float_bits::of_bits;
-use lists::clear::clear_values;
+use lists::clear::fill;
 use lists::numbers::wide;
 
 pub(crate) fn keep(
@@ -26,7 +26,7 @@ pub(crate) fn keep(
 {
     match r {
         Found::Size { n, count } => {
-            clear_values(wide(n), right);
+            fill(0.0, wide(n), right);
             Head {
                 stage: Stage::Sized,
                 n,

@@ -29,7 +29,7 @@ overflow_add-result-in-Right c = omega (
 
 pub returns-in-Size : goal.returns-in-Size
 returns-in-Size c = kept-size c.args.h (arrays c.args.rows.now c.args.columns.now c.args.values.now c.args.right.now) c.requires.0 c.args.r
-    c.requires.1 c.in-Size.is c.wide.ensures.0 c.clear_values.ensures
+    c.requires.1 c.in-Size.is c.wide.ensures.0 c.fill.ensures
 
 pub returns-in-Entry : goal.returns-in-Entry
 returns-in-Entry c = kept_entry c.args.h (arrays c.args.rows.now c.args.columns.now c.args.values.now c.args.right.now) c.requires.0 c.args.r
