@@ -2,7 +2,8 @@
 use mathlib.Core.Path.{◌≡◌, refl, sym, ◌∙◌}
 use mathlib.Core.List.{List, [], ◌∷◌}
 use mathlib.Core.Logic.{◌⊎◌}
-use Prim.Native.Nat.{ℕ}
+use Prim.Native.Nat.{ℕ, zero, suc, min}
+use lib.ListN.{length, take}
 use native.Mathlib.Omega.{arith}
 use lib.Ieee.{Float}
 use denote.Ref.{Bor}
@@ -23,6 +24,17 @@ unfolding over
 over_ended f [] m s h = refl
 over_ended f (a ∷ l) [] s h = refl
 over_ended f (a ∷ l) (b ∷ m) s h = grind arith
+
+-- what both have is all that counts
+pub over-cut : {A B S : Type 0} (f : A → B → S → S) (n : ℕ) (l : List A) (m : List B) (s : S) → n ≡ min (length l) (length m)
+    → over f (take n l) (take n m) s ≡ over f l m s
+unfolding over
+over-cut f zero [] m s e = refl
+over-cut f (suc n) [] m s e = absurd (omega arith)
+over-cut f zero (a ∷ l) [] s e = refl
+over-cut f (suc n) (a ∷ l) [] s e = absurd (omega arith)
+over-cut f zero (a ∷ l) (b ∷ m) s e = absurd (omega arith)
+over-cut f (suc n) (a ∷ l) (b ∷ m) s e = over-cut f n l m (f a b s) (omega arith)
 
 -- what is left of the two gives, from the state s of now, what all of them give from s₀
 module _ {A B S : Type 0} (f : A → B → S → S) where

@@ -19,11 +19,12 @@ use cs_matrix::matrix::Matrix;
 use lists::numbers::wide;
 use lists::tight::tight;
 
-// b(i) = b(i) - (x times value) for the lower rows i of column j.
+// b(i) = b(i) - (x times value) for the lower rows i of column j. Cut to one length, as two lengths are two tests at each row.
 fn lower_rows(j: usize, x: f64, rows: &[u32], vals: &[f64], b: &mut [f64])
     ensures { b.new ≡ over (lower_at j x) rows.now vals.now b.old }
 {
-    for (&row, &value) in rows.iter().zip(vals) {
+    let n = rows.len().min(vals.len());
+    for (&row, &value) in rows[..n].iter().zip(&vals[..n]) {
         let i = wide(row);
         if j < i && i < b.len() {
             b[i] -= x * value;

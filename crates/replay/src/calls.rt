@@ -139,6 +139,7 @@ fn built(h: &Head, case: &mut Case) -> Answer {
         x,
         ..
     } = case;
+    let (s0, s1, v, s2, b) = (&s0[..], &s1[..], &v[..], &s2[..], &b[..]);
     let a = matrix(h.m, h.n, s0, s1, v);
     let other = matrix(h.d, h.e, s2, s3, b);
     match h.call {
