@@ -1,11 +1,11 @@
 -- Two operands judged together, and number 7 of a result that is written column by column. Assumes nothing.
 use mathlib.Core.Path.{◌≡◌, refl, sym, ◌∙◌}
 use mathlib.Core.Bool.{Bool, true, false, ◌||◌}
-use Prim.Native.Nat.{ℕ, ◌+◌, ◌≤◌, ◌<◌}
+use Prim.Native.Nat.{ℕ, ◌+◌, ◌≤◌}
 use native.Mathlib.Omega.{arith}
 use lib.Dec.{ltb}
 use lib.ListN.{length}
-use borrow.Author.Tests.{lt-ltb, le-ltb, ltb-false}
+use borrow.Author.Tests.{le-ltb, ltb-false}
 use Rattle.lists.specs.Calls.{lowest, both, disagree, lower}
 use Rattle.lists.proofs.Bools.{passed_over, or-false}
 use Rattle.lists.proofs.Calls.{Early, From, lowest-both, lower_alone, lower-none}
