@@ -12,7 +12,7 @@ use Rattle.lists.specs.Calls.{lowest, none, narrow, Scratch, scratch, cleared, w
 use Rattle.lists.specs.Choices.{chosen}
 use Rattle.lists.specs.Parts.{part, placed}
 use Rattle.lists.proofs.Bools.{not_holds, passed_over}
-use Rattle.lists.proofs.Calls.{first, then, lowest_under, early, kept, left_alone, left-written, wiped_each, not_narrow}
+use Rattle.lists.proofs.Calls.{first, then, early, kept, left_alone, left-written, wiped_each, not_narrow}
 use Rattle.lists.proofs.Clearing.{length-cleared, cleared-front, cleared-again}
 use Rattle.lists.proofs.Laying.{part_long}
 use Rattle.lists.proofs.Parts.{length_part}
@@ -24,7 +24,7 @@ use Rattle.cs_columns.specs.Columns.{joined, with_columns, with_entries, laid, j
 use Rattle.cs_columns.proofs.Filling.{Filling, filling_start, filling_turn, filling_end, filling_at, filling_i, filling_v, room_i, room_v, room_p}
 use Rattle.cs_columns.proofs.Filling.{room-all}
 use Rattle.cs_columns.proofs.Joining.{joined-none, length_more, joined_alike, entries-within, entries_valid}
-use Rattle.cs_columns.proofs.Judging.{early_two, Passed, passed, Roomy, roomy, short_fewer, short_for_lem}
+use Rattle.cs_columns.proofs.Judging.{alone_7, early_two, Passed, passed, Roomy, roomy, short_fewer, short_for_lem}
 use Rattle.cs_product.specs.Product.{accumulated, remains, row_of, value_of, product, needed_two, number}
 use Rattle.cs_product.specs.Steps.{column_of, Within, Spanned, size, Fresh, Starting, Column, Factors, Begun, Ready, Clean}
 use Rattle.cs_product.proofs.Spanning.{column_few}
@@ -327,7 +327,7 @@ module _ (a b : Matrix) where
       pub at_7 : (s ≡ 0 → ⊥) → Served s old
       at_7 h = (
         short-is,
-        left_alone s _ old h (λ q. omega (arith, short-is, q, lowest_under 8 ((7, short (product a b) old) ∷ []) (omega arith) (omega arith, omega arith, omega arith))),
+        left_alone s _ old h (λ q. omega (arith, short-is, q, alone_7 (short (product a b) old))),
         λ q. absurd (h q),
       )
 

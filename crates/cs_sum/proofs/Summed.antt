@@ -12,7 +12,7 @@ use Rattle.lists.specs.Calls.{lowest, outputs}
 use Rattle.lists.specs.Choices.{chosen}
 use Rattle.lists.specs.Parts.{part}
 use Rattle.lists.proofs.Bools.{or-false, not_holds, passed_over}
-use Rattle.lists.proofs.Calls.{first, then, lowest_under, below_7, left_alone, left-written}
+use Rattle.lists.proofs.Calls.{first, then, below_7, left_alone, left-written}
 use Rattle.lists.proofs.Parts.{length_part}
 use Rattle.lists.proofs.Tables.{length-table}
 use Rattle.cs_matrix.specs.Matrix.{Matrix, Stored, stored, column, short, written, Valid}
@@ -21,7 +21,7 @@ use Rattle.cs_columns.specs.Columns.{joined, with_columns, with_entries, either,
 use Rattle.cs_columns.proofs.Filling.{Filling, filling_start, filling_turn, filling_end, filling_at, filling_i, filling_v, room_i, room_v, room_p}
 use Rattle.cs_columns.proofs.Filling.{room-all}
 use Rattle.cs_columns.proofs.Joining.{joined-none, length_more, joined-steps, joined_alike, entries-within, entries_valid}
-use Rattle.cs_columns.proofs.Judging.{early_two, Passed, passed, Roomy, roomy, short_fewer, short_for_lem}
+use Rattle.cs_columns.proofs.Judging.{alone_7, early_two, Passed, passed, Roomy, roomy, short_fewer, short_for_lem}
 use Rattle.cs_columns.proofs.Merging.{either-most}
 use Rattle.cs_sum.specs.Steps.{Risen, Column, Alike, Ready}
 use Rattle.cs_sum.specs.Sum.{summed_at, row_of, value_of, sum, differ, number}
@@ -305,10 +305,12 @@ module _ (a b : Matrix) (old : Stored) where
 
       module _ {s : ℕ} (g : s ≡ lowest ((7, lacks) ∷ [])) where
         after_6 : s ≡ number a b old
-        after_6 = g ∙ cong (λ (q : Bool). lowest ((7, q) ∷ [])) (sym (short_for_lem (sum a b) old _ _ (p_long a b) (i_long a b) (v_long a b))) ∙ after_5
+        after_6 =
+            let e = short_for_lem (sum a b) old _ _ (p_long a b) (i_long a b) (v_long a b) in
+            g ∙ cong (λ (q : Bool). lowest ((7, q) ∷ [])) (sym e) ∙ after_5
 
         pub at_7 : (s ≡ 0 → ⊥) → Answer s old
-        at_7 h = (after_6, left_alone s _ old h (λ q. omega (arith, g, q, lowest_under 8 ((7, lacks) ∷ []) (omega arith) (omega arith, omega arith, omega arith))), λ q. absurd (h q))
+        at_7 h = (after_6, left_alone s _ old h (λ q. omega (arith, g, q, alone_7 lacks)), λ q. absurd (h q))
 
         module _ (h : s ≡ 0) where
           room-is : Roomy a.pattern.ncols (size a b) (length old.p) (length old.i) (length old.v)

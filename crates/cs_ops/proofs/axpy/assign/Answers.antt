@@ -10,11 +10,13 @@ use Rattle.cs_ops.proofs.axpy.assign.Goals as goal
 pub loop-row-preserved : goal.loop-row-preserved
 unfolding assign_at
 loop-row-preserved c =
-    let t = zip_turn c.args.x.i.now c.args.x.v.now _ _ _ c.next.new.self _ (search rules) (search rules) c.loop-row.yielded_by _ c.in-Some.is c.next.ensures.steps in
+    let t = zip_turn c.args.x.i.now c.args.x.v.now _ _ _ c.next.new.self _
+    (search rules) (search rules) c.loop-row.yielded_by _ c.in-Some.is c.next.ensures.steps in
     rw (length-append, t.3 nan) (storing_turn _ _ c.loop-row.invariant t.0 (c.wide-at.ensures.0 ∙ t.2 0) _ refl)
 
 pub returns : goal.returns
 unfolding assigned
 returns c =
-    let n = zip_end c.args.x.i.now c.args.x.v.now _ _ _ c.next.new.self _ (search rules) (search rules) c.loop-row.yielded_by c.in-None.is c.next.ensures.steps in
+    let n = zip_end c.args.x.i.now c.args.x.v.now _ _ _ c.next.new.self _
+    (search rules) (search rules) c.loop-row.yielded_by c.in-None.is c.next.ensures.steps in
     storing_done _ _ c.loop-row.invariant (omega arith)

@@ -10,25 +10,32 @@ loop-col-init c = accumulating_start _ _ _ _ c.requires
 
 pub slice_bounds-add_column-end : goal.slice_bounds-add_column-end
 slice_bounds-add_column-end c =
-    let t = zip_turn c.args.rows.now c.args.vals.now _ _ _ c.next.new.self _ (search rules) (search rules) c.loop-col.yielded_by _ c.in-Some.is c.next.ensures.steps in
+    let t = zip_turn c.args.rows.now c.args.vals.now _ _ _ c.next.new.self _
+    (search rules) (search rules) c.loop-col.yielded_by _ c.in-Some.is c.next.ensures.steps in
     (handed _ _ _ _ c.loop-col.invariant t.0 (c.wide-c.ensures.0 ∙ t.2 0) c.wide-start.ensures.0 c.wide-end.ensures.0).inside
 
 pub slice_bounds-add_column-end-in-loop-col : goal.slice_bounds-add_column-end-in-loop-col
 slice_bounds-add_column-end-in-loop-col c =
-    let t = zip_turn c.args.rows.now c.args.vals.now _ _ _ c.next.new.self _ (search rules) (search rules) c.loop-col.yielded_by _ c.in-Some.is c.next.ensures.steps in
+    let t = zip_turn c.args.rows.now c.args.vals.now _ _ _ c.next.new.self _
+    (search rules) (search rules) c.loop-col.yielded_by _ c.in-Some.is c.next.ensures.steps in
     in_v _ _ _ _ c.loop-col.invariant t.0 (c.wide-c.ensures.0 ∙ t.2 0) c.wide-start.ensures.0 c.wide-end.ensures.0
 
 pub add_column-many-requires : goal.add_column-many-requires
 add_column-many-requires c =
-    let t = zip_turn c.args.rows.now c.args.vals.now _ _ _ c.next.new.self _ (search rules) (search rules) c.loop-col.yielded_by _ c.in-Some.is c.next.ensures.steps in
+    let t = zip_turn c.args.rows.now c.args.vals.now _ _ _ c.next.new.self _
+    (search rules) (search rules) c.loop-col.yielded_by _ c.in-Some.is c.next.ensures.steps in
     accumulating_asks _ _ _ _ c.loop-col.invariant t.0 (c.wide-c.ensures.0 ∙ t.2 0) c.wide-start.ensures.0 c.wide-end.ensures.0
 
 pub loop-col-preserved : goal.loop-col-preserved
 loop-col-preserved c =
-    let t = zip_turn c.args.rows.now c.args.vals.now _ _ _ c.next.new.self _ (search rules) (search rules) c.loop-col.yielded_by _ c.in-Some.is c.next.ensures.steps in
-    let e = c.add_column-many.ensures.0 in rw length-append (accumulating_turn _ _ _ _ c.loop-col.invariant t.0 (c.wide-c.ensures.0 ∙ t.2 0) c.wide-start.ensures.0 c.wide-end.ensures.0 (rw (t.3 nan) at e) c.add_column-many.ensures.1)
+    let t = zip_turn c.args.rows.now c.args.vals.now _ _ _ c.next.new.self _
+    (search rules) (search rules) c.loop-col.yielded_by _ c.in-Some.is c.next.ensures.steps in
+    let e = c.add_column-many.ensures.0 in
+    rw length-append (accumulating_turn _ _ _ _ c.loop-col.invariant t.0 (c.wide-c.ensures.0 ∙ t.2 0)
+    c.wide-start.ensures.0 c.wide-end.ensures.0 (rw (t.3 nan) at e) c.add_column-many.ensures.1)
 
 pub returns : goal.returns
 returns c =
-    let n = zip_end c.args.rows.now c.args.vals.now _ _ _ c.next.new.self _ (search rules) (search rules) c.loop-col.yielded_by c.in-None.is c.next.ensures.steps in
+    let n = zip_end c.args.rows.now c.args.vals.now _ _ _ c.next.new.self _
+    (search rules) (search rules) c.loop-col.yielded_by c.in-None.is c.next.ensures.steps in
     accumulating_done _ _ _ _ c.loop-col.invariant (omega (arith, c.requires.alike))

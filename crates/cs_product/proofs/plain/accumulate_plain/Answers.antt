@@ -7,25 +7,32 @@ use Rattle.cs_product.proofs.plain.accumulate_plain.Goals as goal
 
 pub slice_bounds-add_plain-end : goal.slice_bounds-add_plain-end
 slice_bounds-add_plain-end c =
-    let t = zip_turn c.args.rows.now c.args.vals.now _ _ _ c.next.new.self _ (search rules) (search rules) c.loop-col.yielded_by _ c.in-Some.is c.next.ensures.steps in
+    let t = zip_turn c.args.rows.now c.args.vals.now _ _ _ c.next.new.self _
+    (search rules) (search rules) c.loop-col.yielded_by _ c.in-Some.is c.next.ensures.steps in
     (handed _ _ _ c.loop-col.invariant t.0 (c.wide-c.ensures.0 ∙ t.2 0) c.wide-start.ensures.0 c.wide-end.ensures.0).inside
 
 pub slice_bounds-add_plain-end-in-loop-col : goal.slice_bounds-add_plain-end-in-loop-col
 slice_bounds-add_plain-end-in-loop-col c =
-    let t = zip_turn c.args.rows.now c.args.vals.now _ _ _ c.next.new.self _ (search rules) (search rules) c.loop-col.yielded_by _ c.in-Some.is c.next.ensures.steps in
+    let t = zip_turn c.args.rows.now c.args.vals.now _ _ _ c.next.new.self _
+    (search rules) (search rules) c.loop-col.yielded_by _ c.in-Some.is c.next.ensures.steps in
     in_v _ _ _ c.loop-col.invariant t.0 (c.wide-c.ensures.0 ∙ t.2 0) c.wide-start.ensures.0 c.wide-end.ensures.0
 
 pub add_plain-requires : goal.add_plain-requires
 add_plain-requires c =
-    let t = zip_turn c.args.rows.now c.args.vals.now _ _ _ c.next.new.self _ (search rules) (search rules) c.loop-col.yielded_by _ c.in-Some.is c.next.ensures.steps in
+    let t = zip_turn c.args.rows.now c.args.vals.now _ _ _ c.next.new.self _
+    (search rules) (search rules) c.loop-col.yielded_by _ c.in-Some.is c.next.ensures.steps in
     up_asks _ _ _ c.loop-col.invariant t.0 (c.wide-c.ensures.0 ∙ t.2 0) c.wide-start.ensures.0 c.wide-end.ensures.0
 
 pub loop-col-preserved : goal.loop-col-preserved
 loop-col-preserved c =
-    let t = zip_turn c.args.rows.now c.args.vals.now _ _ _ c.next.new.self _ (search rules) (search rules) c.loop-col.yielded_by _ c.in-Some.is c.next.ensures.steps in
-    let e = c.add_plain.ensures in rw length-append (up_turn _ _ _ c.loop-col.invariant t.0 (c.wide-c.ensures.0 ∙ t.2 0) c.wide-start.ensures.0 c.wide-end.ensures.0 (rw (t.3 nan) at e) c.add_plain.auto.x)
+    let t = zip_turn c.args.rows.now c.args.vals.now _ _ _ c.next.new.self _
+    (search rules) (search rules) c.loop-col.yielded_by _ c.in-Some.is c.next.ensures.steps in
+    let e = c.add_plain.ensures in
+    rw length-append (up_turn _ _ _ c.loop-col.invariant t.0 (c.wide-c.ensures.0 ∙ t.2 0)
+    c.wide-start.ensures.0 c.wide-end.ensures.0 (rw (t.3 nan) at e) c.add_plain.auto.x)
 
 pub returns : goal.returns
 returns c =
-    let n = zip_end c.args.rows.now c.args.vals.now _ _ _ c.next.new.self _ (search rules) (search rules) c.loop-col.yielded_by c.in-None.is c.next.ensures.steps in
+    let n = zip_end c.args.rows.now c.args.vals.now _ _ _ c.next.new.self _
+    (search rules) (search rules) c.loop-col.yielded_by c.in-None.is c.next.ensures.steps in
     up_done _ _ _ c.loop-col.invariant (omega (arith, c.requires.alike))

@@ -4,10 +4,12 @@ use Rattle.cs_product.proofs.span.span_of.Goals as goal
 use Rattle.cs_product.proofs.span.span_of.Goals.{else-start-end, then-start-end}
 
 pub bounds-i-start : goal.bounds-i-start
-bounds-i-start c = first-in _ _ c.loop-col.invariant c.loop-col-test.true c.wide-c.ensures.0 c.wide-start.ensures.0 c.wide-end.ensures.0 c.if-start-end.true
+bounds-i-start c = first-in _ _ c.loop-col.invariant c.loop-col-test.true c.wide-c.ensures.0 c.wide-start.ensures.0 c.wide-end.ensures.0
+    c.if-start-end.true
 
 pub bounds-i-end : goal.bounds-i-end
-bounds-i-end c = last-in _ _ c.loop-col.invariant c.loop-col-test.true c.wide-c.ensures.0 c.wide-start.ensures.0 c.wide-end.ensures.0 c.if-start-end.true
+bounds-i-end c = last-in _ _ c.loop-col.invariant c.loop-col-test.true c.wide-c.ensures.0 c.wide-start.ensures.0 c.wide-end.ensures.0
+    c.if-start-end.true
 
 pub loop-col-preserved : goal.loop-col-preserved
 loop-col-preserved c =

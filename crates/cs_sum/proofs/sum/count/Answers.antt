@@ -17,14 +17,17 @@ slice_bounds-count_rows-end-in-loop-j c =
 
 pub count_rows-places-requires : goal.count_rows-places-requires
 count_rows-places-requires c = risen _ _ c.loop-j.invariant.ask c.loop-j-test.true
-    (handed _ _ c.loop-j.invariant.ask c.loop-j-test.true c.wide-a_start.ensures.0 c.wide-a_end.ensures.0 c.wide-b_start.ensures.0 c.wide-b_end.ensures.0)
+    (handed _ _ c.loop-j.invariant.ask c.loop-j-test.true c.wide-a_start.ensures.0 c.wide-a_end.ensures.0 c.wide-b_start.ensures.0
+    c.wide-b_end.ensures.0)
 
 pub overflow_add-places : goal.overflow_add-places
 overflow_add-places c = let h = tallying_small _ _ c.loop-j.invariant c.loop-j-test.true
-    (handed _ _ c.loop-j.invariant.ask c.loop-j-test.true c.wide-a_start.ensures.0 c.wide-a_end.ensures.0 c.wide-b_start.ensures.0 c.wide-b_end.ensures.0)
+    (handed _ _ c.loop-j.invariant.ask c.loop-j-test.true c.wide-a_start.ensures.0 c.wide-a_end.ensures.0 c.wide-b_start.ensures.0
+    c.wide-b_end.ensures.0)
     c.count_rows-places.ensures in record { fits = omega arith }
 
 pub loop-j-preserved : goal.loop-j-preserved
 loop-j-preserved c = tallying_turn _ _ c.loop-j.invariant c.loop-j-test.true
-    (handed _ _ c.loop-j.invariant.ask c.loop-j-test.true c.wide-a_start.ensures.0 c.wide-a_end.ensures.0 c.wide-b_start.ensures.0 c.wide-b_end.ensures.0)
+    (handed _ _ c.loop-j.invariant.ask c.loop-j-test.true c.wide-a_start.ensures.0 c.wide-a_end.ensures.0 c.wide-b_start.ensures.0
+    c.wide-b_end.ensures.0)
     c.count_rows-places.ensures

@@ -14,7 +14,8 @@ check_room-requires c = alike _ _ (stored [] [] []) c.differ.ensures c.in_ok-che
 
 pub returns-in_err-check_room : goal.returns-in_err-check_room
 returns-in_err-check_room c = at_7 _ _ _ c.differ.ensures c.in_ok-check_two.ensures refl
-    (passed-number _ _ c.from_residual-in_err-check_room.ensures.1 c.in_err-check_room.ensures) (passed-some _ _ c.from_residual-in_err-check_room.ensures.1)
+    (passed-number _ _ c.from_residual-in_err-check_room.ensures.1 c.in_err-check_room.ensures)
+    (passed-some _ _ c.from_residual-in_err-check_room.ensures.1)
 
 pub fill-requires : goal.fill-requires
 fill-requires c = ready _ _ _ c.differ.ensures c.in_ok-check_two.ensures refl c.in_ok-check_room.ensures refl
