@@ -1,9 +1,10 @@
 // The factoring by the engine that GO names, with scratch of its own.
 ghost use Rattle.std.specs.Prelude.{◌≡◌};
 ghost use Rattle.lists.specs.Calls.{lent, outputs};
-ghost use Rattle.cs_matrix.specs.Matrix.{matrix};
-ghost use Rattle.cs_tree.specs.Pattern.{analysis, upper, entries};
+ghost use Rattle.cs_matrix.specs.Lent.{matrix_of};
+ghost use Rattle.cs_tree.specs.Pattern.{upper, entries};
 ghost use Rattle.cs_pattern.specs.Columns.{columns};
+ghost use Rattle.cs_pattern.specs.Lent.{analysis_of};
 ghost use Rattle.cs_cholesky.specs.Factor.{answer, written};
 ghost use Rattle.job_file.specs.Told.{byte};
 ghost use Rattle.job_prepare.specs.Prepare.{scratch_room};
@@ -11,25 +12,15 @@ ghost use Rattle.job.specs.Run.{factoring, factor_number};
 
 use cs_cholesky::Factored;
 use cs_left::left::decompose_left_looking;
+use cs_matrix::matrix::Matrix;
+use cs_pattern::compare::Analysis;
 use cs_up::up::decompose_up_looking;
 use job_file::read::Engine;
 
 // L's values in lx.
-pub fn factor(
-    engine: Engine,
-    n: usize,
-    p: &[u32],
-    i: &[u32],
-    v: &[f64],
-    tree: &[u32],
-    up: &[u32],
-    ui: &[u32],
-    lp: &[u32],
-    li: &[u32],
-    lx: &mut [f64],
-) -> Factored
-    ensures { let a = matrix n n p.now i.now v.now in
-        let given = analysis tree.now up.now ui.now lp.now li.now in
+pub fn factor(engine: Engine, a: Matrix<'_>, given: Analysis<'_>, lx: &mut [f64]) -> Factored
+    ensures { let a = matrix_of a.entry in
+        let given = analysis_of given.entry in
         let old = lx.old in
         let e = byte engine in
         (result ≡ answer (factor_number e a given (lent old scratch_room)) (factoring e a))
@@ -40,11 +31,7 @@ pub fn factor(
     let mut w3: [u32; 2562] = [0; 2562];
     let mut x: [f64; 2562] = [0.0; 2562];
     match engine {
-        Engine::Left => decompose_left_looking(
-            n, n, p, i, v, tree, up, ui, lp, li, lx, &mut w1, &mut w2, &mut w3, &mut x,
-        ),
-        Engine::Up => decompose_up_looking(
-            n, n, p, i, v, tree, up, ui, lp, li, lx, &mut w1, &mut w2, &mut w3, &mut x,
-        ),
+        Engine::Left => decompose_left_looking(a, given, lx, &mut w1, &mut w2, &mut w3, &mut x),
+        Engine::Up => decompose_up_looking(a, given, lx, &mut w1, &mut w2, &mut w3, &mut x),
     }
 }

@@ -1,19 +1,18 @@
 -- A file record by record: the first record, its bytes, and the file behind it. Assumes nothing.
-use mathlib.Core.Path.{◌≡◌, refl, sym, ap, ◌∙◌}
-use mathlib.Core.Logic.{⊎_elim}
-use mathlib.Core.Bool.{Bool, true, false, not, cond}
+use mathlib.Core.Path.{◌≡◌, refl, ap, ◌∙◌}
+use mathlib.Core.Bool.{Bool, true, false, cond}
 use mathlib.Core.List.{List, [], ◌∷◌}
 use Prim.Native.Nat.{ℕ, zero, suc, ◌+◌, ◌-◌, ◌≤◌, ◌<◌}
 use native.Mathlib.Omega.{arith}
 use lib.Dec.{eqb, leb}
 use lib.ListN.{length, drop, length-drop}
 use lib.Seq.{drop-drop}
-use borrow.Author.Tests.{eq-eqb, ne_eqb, eqb-true, leb-true}
-use Rattle.lists.proofs.Bools.{and-true, passed_over, not_holds, eq-or-ne}
+use borrow.Author.Tests.{eq-eqb, ne_eqb, leb-true}
+use Rattle.lists.proofs.Bools.{and-true}
 use Rattle.little.specs.Little.{little}
 use Rattle.job_file.specs.Records.{Record, SZ, EN, RH, GO, Wrong, size, begins, first, records_past, records}
 use Rattle.job_file.specs.Faults.{Job, fault, at_end}
-use Rattle.job_file.specs.Reading.{Outcome, empty, taken, reads, read_file}
+use Rattle.job_file.specs.Reading.{Outcome, taken, reads}
 
 -- a record takes at least one byte, and no more than there are
 pub some : (r : Record) → 1 ≤ size r
@@ -81,18 +80,3 @@ reads_stop r rs j e = ap (λ (b : Bool). elim b as (λ _. Outcome) [ true ↦ re
 pub reads_end : (j : Job) → reads (records []) j ≡ record { number = at_end j; job = j }
 unfolding reads records records_past
 reads_end j = refl
-
--- a sound file has come to its end
-sound : (rs : List Record) (j : Job) → (reads rs j).number ≡ 0 → (reads rs j).job.place.stage ≡ 2
-unfolding at_end reads
-sound [] j z = eqb-true j.place.stage 2 (not_holds _ (passed_over (not (eqb j.place.stage 2)) 11 0 z).0)
-sound (r ∷ rs) j z =
-    ⊎_elim
-    (λ (e : fault j r ≡ 0). let o = reads_on r rs j e in
-    ap (λ (x : Outcome). x.job.place.stage) o ∙ sound rs (taken j r) (sym (ap (λ (x : Outcome). x.number) o) ∙ z))
-    (λ (n : fault j r ≡ 0 → ⊥). absurd (n (sym (ap (λ (x : Outcome). x.number) (reads_stop r rs j n)) ∙ z)))
-    (eq-or-ne (fault j r) 0)
-
-pub sound_ends : (s : List ℕ) → (read_file s).number ≡ 0 → (read_file s).job.place.stage ≡ 2
-unfolding read_file
-sound_ends s z = sound (records s) empty z
