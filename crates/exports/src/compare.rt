@@ -34,6 +34,12 @@ pub extern "C" fn siwkatenor_compare(
         (result ≡ number a room given old) × (new ≡ worked result (needed a) old) }
 {
     let a = Pattern { nrows, ncols, p, i };
-    let given = Analysis { tree, up, ui, lp, li };
+    let given = Analysis {
+        tree,
+        up,
+        ui,
+        lp,
+        li,
+    };
     number(cs_pattern::compare::compare(a, room, given, w1, w2, w3, x))
 }

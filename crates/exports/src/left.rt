@@ -39,6 +39,12 @@ pub extern "C" fn siwkatenor_decompose_left_looking(
         × (new ≡ leaves result.number (needed (pattern nrows ncols p.now i.now)) (written t (left a) lx.old) old) }
 {
     let pattern = Pattern { nrows, ncols, p, i };
-    let given = Analysis { tree, up, ui, lp, li };
+    let given = Analysis {
+        tree,
+        up,
+        ui,
+        lp,
+        li,
+    };
     cs_left::left::decompose_left_looking(Matrix { pattern, v }, given, lx, w1, w2, w3, x)
 }

@@ -38,6 +38,12 @@ pub extern "C" fn siwkatenor_decompose_up_looking(
         (result ≡ answer_of (number a given old) (upOf a)) × (new ≡ leaves result.number (needed a.pattern) (written t (upOf a) old.out) old) }
 {
     let pattern = Pattern { nrows, ncols, p, i };
-    let given = Analysis { tree, up, ui, lp, li };
+    let given = Analysis {
+        tree,
+        up,
+        ui,
+        lp,
+        li,
+    };
     cs_up::up::decompose_up_looking(Matrix { pattern, v }, given, lx, w1, w2, w3, x)
 }

@@ -1,7 +1,8 @@
 -- Refusals and answers by their numbers. Assumes nothing.
-use Rattle.std.proofs.Common.{◌≡◌, ℕ, ◌<◌, ◌≤◌, refl, ap, ◌∙◌, arith, Result, Ok, Err}
+use Rattle.std.proofs.Common.{◌≡◌, ℕ, ◌<◌, ◌≤◌, refl, ap, sym, ◌∙◌, arith, Result, Ok, Err}
 use Rattle.std.specs.Result.{result_and, IsErrAnd}
 use Rattle.std.proofs.lemmas.Result.{err_from_is_err_and}
+use Rattle.std.specs.Prelude.{cond, eqb}
 use Rattle.lists.specs.Calls.{lower}
 use Rattle.lists.specs.Refusals.{number_of, numbered}
 use Rattle.lists.specs.declared.refusal.Refusal.{Refusal}
@@ -28,6 +29,40 @@ refusal-some Malformed e = omega arith
 pub numbered-none : (a : Result Unit Refusal) → numbered a ≡ 0 → a ≡ Ok tt
 numbered-none (Ok tt) e = refl
 numbered-none (Err r) e = absurd (refusal-some r e)
+
+-- ---- no two answers have the same number
+abbrev answer_of : ℕ → Result Unit Refusal
+answer_of n =
+    cond (eqb n 1) (Err TooLarge) (
+    cond (eqb n 2) (Err Disagree) (
+    cond (eqb n 3) (Err BadPointers) (
+    cond (eqb n 4) (Err OutOfRange) (
+    cond (eqb n 5) (Err NotRising) (
+    cond (eqb n 6) (Err NoScratch) (
+    cond (eqb n 7) (Err NoRoom) (
+    cond (eqb n 8) (Err WrongAnalysis) (
+    cond (eqb n 9) (Err Misplaced) (
+    cond (eqb n 10) (Err NoDiagonal) (
+    cond (eqb n 11) (Err BadPivot) (
+    cond (eqb n 12) (Err Malformed) (Ok tt))))))))))))
+
+answer_back : (a : Result Unit Refusal) → answer_of (numbered a) ≡ a
+answer_back (Ok tt) = refl
+answer_back (Err TooLarge) = refl
+answer_back (Err Disagree) = refl
+answer_back (Err BadPointers) = refl
+answer_back (Err OutOfRange) = refl
+answer_back (Err NotRising) = refl
+answer_back (Err NoScratch) = refl
+answer_back (Err NoRoom) = refl
+answer_back (Err WrongAnalysis) = refl
+answer_back (Err Misplaced) = refl
+answer_back (Err NoDiagonal) = refl
+answer_back (Err BadPivot) = refl
+answer_back (Err Malformed) = refl
+
+pub numbered_only : (a b : Result Unit Refusal) → numbered a ≡ numbered b → a ≡ b
+numbered_only a b e = sym (answer_back a) ∙ ap answer_of e ∙ answer_back b
 
 -- ---- `lower`: where one answer refuses nothing, and of two refusals the lower
 pub lower-ok_left : (a b : Result Unit Refusal) {x : Unit} → a ≡ Ok x → numbered (result_and a b) ≡ lower (numbered a) (numbered b)
