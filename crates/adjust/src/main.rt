@@ -10,6 +10,6 @@ fn main(rt: HostRuntime) -> io::Result<()> {
     // An XV for each of 256 rows.
     let mut out: [u8; 3584] = [0; 3584];
     let (n, _) = fill(&mut rt.stdin(), &mut input);
-    let r = job::job::job(&input[..n], &mut out);
-    rt.write_all(&out[..r.written])
+    let written = job::job::job(&input[..n], &mut out).unwrap();
+    rt.write_all(&out[..written])
 }
