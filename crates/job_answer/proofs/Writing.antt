@@ -8,8 +8,9 @@ use native.Mathlib.Omega.{arith}
 use lib.Ieee.{Float}
 use lib.ListN.{length, drop, take-append-drop}
 use borrow.Author.Tests.{lt-ltb, le-ltb}
-use Rattle.std.specs.Prelude.{Ok, Err}
+use Rattle.std.specs.Prelude.{Result, Ok, Err, IsOk}
 use Rattle.lists.specs.Calls.{onto}
+use Rattle.lists.specs.declared.refusal.Refusal.{Refusal}
 use Rattle.lists.specs.declared.refusal.Refusal.TheVariants.{NoRoom}
 use Rattle.lists.proofs.Bools.{eq-or-ne}
 use Rattle.little.specs.Little.{bytes}
@@ -23,10 +24,17 @@ short w old h =
     let e = lt-ltb (length old) (length w) h in
     (sym (ap (λ (b : Bool). cond b (Err NoRoom) (Ok (length w))) e), sym (ap (λ (b : Bool). cond b old (onto old w)) e))
 
--- where all of it has room, that many bytes are written
-pub all-written : (w old : List ℕ) → length w ≤ length old → answer w old ≡ Ok (length w)
-unfolding answer
-all-written w old h = ap (λ (b : Bool). cond b (Err NoRoom) (Ok (length w))) (le-ltb (length old) (length w) h)
+-- where there is room for all of it, it is written, and stays within the slice
+module _ (w old : List ℕ) (r : Result ℕ Refusal) (e : r ≡ answer w old) (h : length w ≤ length old) where
+  all-written : r ≡ Ok (length w)
+  unfolding answer
+  all-written = e ∙ ap (λ (b : Bool). cond b (Err NoRoom) (Ok (length w))) (le-ltb (length old) (length w) h)
+
+  pub written-ok : IsOk r
+  written-ok = rw all-written refl
+
+  pub written-within : (n : ℕ) (new : List ℕ) → r ≡ Ok n → length new ≡ length old → n ≤ length new
+  written-within n new f l = let g : n ≡ length w = cc (all-written, f) in omega (arith, g, h, l)
 
 room : (w old new : List ℕ) (e : ℕ) → length w ≤ length old → Put old 0 w e new → (Ok e ≡ answer w old) × (new ≡ leaves w old)
 unfolding answer leaves onto

@@ -18,10 +18,11 @@ fn show(rt: &impl Print, bytes: &[u8]) -> io::Result<()> {
 // Answers what a file holds. A read that fails ends it.
 fn answer<R: Read>(rt: &impl Print, file: &mut R) -> io::Result<()> {
     let mut input: [u8; 40479] = [0; 40479];
+    // room for any answer
     let mut out: [u8; 3584] = [0; 3584];
     let (n, _) = fill(file, &mut input);
-    let r = job::job::job(&input[..n], &mut out);
-    show(rt, &out[..r.written])
+    let written = job::job::job(&input[..n], &mut out).unwrap();
+    show(rt, &out[..written])
 }
 
 // A path is text: bytes that are not name no file.
