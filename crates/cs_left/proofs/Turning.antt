@@ -188,7 +188,8 @@ module _ {n : ℕ} {p i : List ℕ} {v : List Float} {up ui lp li : List ℕ} {r
       (w.starts j (omega arith)) (w.starts (j + 1) (omega arith))
 
   -- at the end of all columns
-  pub state_end : n ≤ k → (((left (matrix n n p i v)).answer ≡ factored 0 0 none) × (take (entries U) lx ≡ flatten (left (matrix n n p i v)).columns)) ×
+  pub state_end : n ≤ k → (((left (matrix n n p i v)).answer ≡ factored 0 0 none) ×
+      (take (entries U) lx ≡ flatten (left (matrix n n p i v)).columns)) ×
       (drop (entries U) lx ≡ drop (entries U) lx₀)
   unfolding left
   state_end h =

@@ -299,7 +299,8 @@ module _ {nrows n : ℕ} {p i w1 w2 w3 : List ℕ} {x : List Float} {old : Scrat
               )
 
           pub at-end : {new : Analysis} {w2f w3f : List ℕ} → b ≡ false
-              → (new ≡ written (analysed D) out) × Kept 0 (n + 1) w2' w2f × Kept 0 (n + 1) w3' w3f → {s : Scratch} → s ≡ wiped (n + 1) (scratch w1' w2f w3f x) → Answers 0 new s
+              → (new ≡ written (analysed D) out) × Kept 0 (n + 1) w2' w2f × Kept 0 (n + 1) w3' w3f → {s : Scratch}
+              → s ≡ wiped (n + 1) (scratch w1' w2f w3f x) → Answers 0 new s
           at-end h g f = (
             sym (answer short-is ∙ ap (λ (c : Bool). cond c 7 0) h),
             done (needed a) _ (lent out old) (g.0 ∙ sym same-columns) (cleared-up kept1 (kept_then kept2' g.1) (kept_then kept3' g.2) f ∙

@@ -37,7 +37,8 @@ module _ {a : Matrix} (w : Valid a) {j : ℕ} (h : j < a.pattern.ncols) where
         rw (c.rows_are, ← column-is b a.pattern.i) (below-part _ _ a.pattern.nrows a.pattern.i b.inside w.pattern.below)
 
 -- the value at row j of column j is its diagonal
-pub diagonal-is : {a : Matrix} {j : ℕ} {rows : List ℕ} {vals : List Float} {d : Float} → IsColumn a j rows vals → d ≡ value_at j rows vals → d ≡ diagonal a j
+pub diagonal-is : {a : Matrix} {j : ℕ} {rows : List ℕ} {vals : List Float} {d : Float} → IsColumn a j rows vals → d ≡ value_at j rows vals
+    → d ≡ diagonal a j
 unfolding diagonal
 diagonal-is c q = q ∙ (rw (c.rows_are, c.vals_are))
 

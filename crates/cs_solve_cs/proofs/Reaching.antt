@@ -147,7 +147,8 @@ module _ {a : Matrix} {rows w : List ℕ} {count : ℕ} {least : Option ℕ} {m 
         ap (λ (u : Bool). (leb (m + 1) k && lists k given) || u) (r.each k l) ∙ store k;
   }
     where
-      store : (k : ℕ) → ((leb (m + 1) k && lists k given) || touched a.pattern rows l k) ≡ touched a.pattern rows (reached_below a.pattern rows (m + 1)) k
+      store : (k : ℕ) → ((leb (m + 1) k && lists k given) || touched a.pattern rows l k) ≡ touched a.pattern rows
+          (reached_below a.pattern rows (m + 1)) k
       store k = rw (below_more a.pattern rows m (hit t), touched-more a.pattern rows l m k, b.rows_are) (go k)
         where
           go : (k : ℕ) → ((leb (m + 1) k && lists k (column a.pattern.p m a.pattern.i)) || touched a.pattern rows l k)

@@ -195,7 +195,8 @@ module _ (n : ℕ) (work : Scratch) {t : Bool} (f : t ≡ narrow (n + 1) work) (
       (omega (arith, lz, length_part 0 n s.x (omega (arith, x_long)))) ∙ (rw x_is (cleared-again none (n + 1) work.x)))
 
 -- ---- what is promised besides
-promised : {k n : ℕ} {p i : List ℕ} {v : List Float} {bi : List ℕ} {bv : List Float} → Valid (matrix k n p i v) → ValidVector (vector k bi bv) → k ≡ n →
+promised : {k n : ℕ} {p i : List ℕ} {v : List Float} {bi : List ℕ} {bv : List Float} → Valid (matrix k n p i v) → ValidVector (vector k bi bv)
+    → k ≡ n →
     ((k : ℕ) → T (fits binary64 (get_or bv k nan)))
     → Promised (matrix k n p i v) (vector k bi bv)
 unfolding solution

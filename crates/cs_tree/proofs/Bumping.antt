@@ -52,7 +52,8 @@ bumping_start {k = k} {counts = counts} v h e =
 
 module _ {k : ℕ} {par : List ℕ} {row : ℕ} {mark₀ mark counts₀ counts : List ℕ} {i len : ℕ} (v : Bumping k par row mark₀ mark counts₀ counts i len)
   where
-    ended : (older : List ℕ) (m : Marks k mark₀ older) → path (v.tells older m).fuel par k i older ≡ [] → counts ≡ counted (way k par row older) counts₀
+    ended : (older : List ℕ) (m : Marks k mark₀ older) → path (v.tells older m).fuel par k i older ≡ []
+        → counts ≡ counted (way k par row older) counts₀
     ended older m e = sym ((v.tells older m).goes ∙ ap (λ (l : List ℕ). counted l counts) e ∙ counted_none counts)
 
     module _ (h : i ≤ k) where

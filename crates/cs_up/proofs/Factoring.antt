@@ -69,7 +69,8 @@ module _ {n : ℕ} {p i : List ℕ} {v : List Float} {tr up ui lp li : List ℕ}
   R = w.ready
 
   module _ (h : k < n) where
-    module _ {lx1 : List Float} {next1 : List ℕ} {x1 : List Float} {pivot : Float} (g : Gone k (matrix n n p i v) (analysis tr up ui lp li) lx next x lx1 next1 x1 pivot) where
+    module _ {lx1 : List Float} {next1 : List ℕ} {x1 : List Float} {pivot : Float}
+        (g : Gone k (matrix n n p i v) (analysis tr up ui lp li) lx next x lx1 next1 x1 pivot) where
       pub factoring_stop : lt none pivot ≡ false → (factored 11 k pivot ≡ (upOf (matrix n n p i v)).answer) × ((factored 11 k pivot).number ≡ 11)
       factoring_stop t =
           let e = factor-is n p i v ∙ reached_stop (step_of n p i v) w.reached h (pivot_is R h g) t in

@@ -187,7 +187,8 @@ module _ {n k : ℕ} {p i : List ℕ} {v : List Float} {tr up ui lp li : List �
       one j s false e = refl
 
   -- column k has been gone through
-  module _ {lx1 : List Float} {next1 : List ℕ} {x1 : List Float} {pivot : Float} (w : Gone k (matrix n n p i v) (analysis tr up ui lp li) lx next x lx1 next1 x1 pivot) where
+  module _ {lx1 : List Float} {next1 : List ℕ} {x1 : List Float} {pivot : Float}
+      (w : Gone k (matrix n n p i v) (analysis tr up ui lp li) lx next x lx1 next1 x1 pivot) where
     way-is : way x1 pivot (held k lp next1 lx1) ≡ rows_at k ls (get_or us k []) (start_at (matrix n n p i v) k done)
     way-is = w.is ∙ goes-is (start_on k rows vals x done) ∙ ap (rows_at k ls (get_or us k [])) begins
 

@@ -95,7 +95,8 @@ output_long s v =
     )))))) in
     text_long r.number r.column 256 r.x h (omega arith)
 
-answers : (s old : List ℕ) (r : StdResult ℕ Refusal) (new : List ℕ) (ls : List Line) → text ls ≡ output s → Within (read_file s).job → (r ≡ answer (text ls) old)
+answers : (s old : List ℕ) (r : StdResult ℕ Refusal) (new : List ℕ) (ls : List Line) → text ls ≡ output s → Within (read_file s).job
+    → (r ≡ answer (text ls) old)
     × (new ≡ leaves (text ls) old) → Answers s old r new
 unfolding output
 answers s old r new ls e v c = (

@@ -89,7 +89,8 @@ rows-turn d {old = old} {x = x} {out = out} {new = new} {at = at} {row = row} {e
       behind = p.1.behind ∙ drop_further at e out old (omega (arith, p.0)) w.behind;
     }
 
-pub rows-done : {old : List ℕ} {x : List Float} {out : List ℕ} {at row : ℕ} → 14 * length x ≤ length out → row ≡ length x → Rows old x out at row → (at ≡ 14 * length x) × Put old 0 (text (rows 0 x)) at out
+pub rows-done : {old : List ℕ} {x : List Float} {out : List ℕ} {at row : ℕ} → 14 * length x ≤ length out → row ≡ length x → Rows old x out at row
+    → (at ≡ 14 * length x) × Put old 0 (text (rows 0 x)) at out
 rows-done {old = old} {x = x} {out = out} {at = at} {row = row} r h w =
     let f = w.rest in
     let g = rw (left-none x row (omega arith), text-none row) at f in

@@ -97,7 +97,8 @@ module _ {s : List ℕ} {old : Arrays} {h : Head} {at : ℕ} {new : Arrays} (v :
       let lb = length-take-le h.n new.right (omega (arith, f.n, f.room.right)) in
       record { n = f.n; entries = omega (arith, lr, f.entries, f.count); columns = lc ∙ sym lr; values = lv ∙ sym lr; right = lb }
 
-  answer_is : {x : ℕ} (a : Result Sound Fault) → said a ≡ record { number = x; head = numbers } → read_file s ≡ record { number = x; job = held_by h new }
+  answer_is : {x : ℕ} (a : Result Sound Fault) → said a ≡ record { number = x; head = numbers }
+      → read_file s ≡ record { number = x; job = held_by h new }
       → Read s old a new
   answer_is {x = x} a f e = (
     f ∙ sym (ap answered e ∙ ap (λ (y : Numbers). record { number = x; head = y }) head-is),

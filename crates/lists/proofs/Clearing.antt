@@ -79,6 +79,8 @@ module _ {A : Type 0} (z : A) where
   pub clearing_turn : {out : List A} {k : ℕ} (l : List A) → out ≡ cleared z k l → k < length l → set out k z ≡ cleared z (k + 1) l
   clearing_turn {k = k} l e h = rw (e, add-one) (one_more k l h)
 
-  pub clearing_done : {out : List A} {k : ℕ} (n : ℕ) (l : List A) → out ≡ cleared z k l → k ≤ min n (length l) → min n (length l) ≤ k → out ≡ cleared z n l
-  clearing_done {k = k} n l e m h = e ∙ ⊎_elim (λ (g : n ≤ k). let i : k ≡ n = omega arith in rw i refl) (λ (g : k < n). past n k l (omega arith) (omega arith))
+  pub clearing_done : {out : List A} {k : ℕ} (n : ℕ) (l : List A) → out ≡ cleared z k l → k ≤ min n (length l) → min n (length l) ≤ k
+      → out ≡ cleared z n l
+  clearing_done {k = k} n l e m h = e ∙ ⊎_elim (λ (g : n ≤ k). let i : k ≡ n = omega arith in rw i refl)
+      (λ (g : k < n). past n k l (omega arith) (omega arith))
       (le-or-lt n k)

@@ -38,7 +38,8 @@ returns-then-total-gt-MAX_ENTRIES c = (
       c.count_column-total.ensures c.if-total-gt-MAX_ENTRIES.true,
   kept-wider _ (few_columns c.requires.0)
       (tot_kept c.requires.1 c.loop-k.invariant (inside c.requires.0 c.loop-k-test.true)
-      (part-is c.requires.0 c.loop-k-test.true c.wide-start.ensures.0 c.wide-end.ensures.0) c.count_column-total.auto.mark c.count_column-total.ensures),
+      (part-is c.requires.0 c.loop-k-test.true c.wide-start.ensures.0 c.wide-end.ensures.0) c.count_column-total.auto.mark
+      c.count_column-total.ensures),
 )
 
 pub loop-k-preserved : goal.loop-k-preserved

@@ -15,7 +15,8 @@ pub loop-row-preserved-then-mark-r : goal.loop-row-preserved-then-mark-r
 loop-row-preserved-then-mark-r c =
     let t = zip_turn c.args.rows.now c.args.vals.now _ _ _ c.next.new.self _
     (search rules) (search rules) c.loop-row.yielded_by _ c.in-Some.is c.next.ensures.steps in
-    rw (length-append, t.3 nan) (adding_new _ _ _ _ _ c.loop-row.invariant t.0 (c.wide-r.ensures.0 ∙ t.2 0) c.if-mark-r.true (sym c.wide-r.ensures.0) refl)
+    rw (length-append, t.3 nan) (adding_new _ _ _ _ _ c.loop-row.invariant t.0 (c.wide-r.ensures.0 ∙ t.2 0) c.if-mark-r.true
+    (sym c.wide-r.ensures.0) refl)
 
 pub loop-row-preserved : goal.loop-row-preserved
 loop-row-preserved c =

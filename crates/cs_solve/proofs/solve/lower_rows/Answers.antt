@@ -9,15 +9,18 @@ use Rattle.cs_solve.proofs.solve.lower_rows.Goals as goal
 pub loop-row-preserved-then-i-b : goal.loop-row-preserved-then-i-b
 unfolding lower_at
 loop-row-preserved-then-i-b c =
-    let e = left_turn (lower_at c.args.j c.args.x) _ _ _ _ c.loop-row.row-iterator c.next.new.self _ _ c.loop-row.invariant c.in-Some.is c.next.ensures.steps in
+    let e = left_turn (lower_at c.args.j c.args.x) _ _ _ _ c.loop-row.row-iterator c.next.new.self _ _ c.loop-row.invariant c.in-Some.is
+    c.next.ensures.steps in
     grind (arith, nat_tests, e)
 
 pub loop-row-preserved : goal.loop-row-preserved
 unfolding lower_at
 loop-row-preserved c =
-    let e = left_turn (lower_at c.args.j c.args.x) _ _ _ _ c.loop-row.row-iterator c.next.new.self _ _ c.loop-row.invariant c.in-Some.is c.next.ensures.steps in
+    let e = left_turn (lower_at c.args.j c.args.x) _ _ _ _ c.loop-row.row-iterator c.next.new.self _ _ c.loop-row.invariant c.in-Some.is
+    c.next.ensures.steps in
     grind (arith, common_steps, nat_tests, e)
 
 pub returns : goal.returns
-returns c = left_end (lower_at c.args.j c.args.x) _ _ _ _ c.loop-row.row-iterator c.next.new.self _ c.loop-row.invariant c.in-None.is c.next.ensures.steps
+returns c = left_end (lower_at c.args.j c.args.x) _ _ _ _ c.loop-row.row-iterator c.next.new.self _ c.loop-row.invariant c.in-None.is
+    c.next.ensures.steps
     ∙ over-cut (lower_at c.args.j c.args.x) _ _ _ _ c.min-n.ensures

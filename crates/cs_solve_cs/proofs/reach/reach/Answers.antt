@@ -22,9 +22,11 @@ loop-j-preserved c =
           rw (t.w-is, t.count-is, t.lacking-is)
           (reaching_on r h t.if-w-j-ne0.true t.column.ensures
           (elim t.if-is_none.branch [
-            | then-is_none+then-value_at u ↦ rw u.lacking-is (seen_new r h u.if-is_none.ensures (sym (lacking-is t.column.ensures u.value_at.ensures) ∙ u.if-value_at.true))
+            | then-is_none+then-value_at u ↦ rw u.lacking-is
+                (seen_new r h u.if-is_none.ensures (sym (lacking-is t.column.ensures u.value_at.ensures) ∙ u.if-value_at.true))
             | else-is_none u ↦ rw u.lacking-is (elim u.else-is_none.branch [
-              | else-is_none-via-then-is_none+else-value_at s ↦ seen_not r h (sym (lacking-is t.column.ensures s.value_at.ensures) ∙ s.if-value_at.false)
+              | else-is_none-via-then-is_none+else-value_at s ↦ seen_not r h
+                  (sym (lacking-is t.column.ensures s.value_at.ensures) ∙ s.if-value_at.false)
               | else-is_none-via-else-is_none s ↦ seen_before r h s.if-is_none.ensures
             ])
           ])

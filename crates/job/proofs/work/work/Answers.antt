@@ -25,22 +25,31 @@ pub slice_bounds-p-end : goal.slice_bounds-p-end
 slice_bounds-p-end c = omega (arith, (work_asks (triplets_of c.args.t) _ _ _ _ _ _ _ _ _ c.in_default.ensures refl).0)
 
 pub slice_bounds-pattern-end : goal.slice_bounds-pattern-end
-slice_bounds-pattern-end c = sym (length-take-le _ _ (omega (arith, (work_asks (triplets_of c.args.t) _ _ _ _ _ _ _ _ _ c.in_default.ensures refl).0)))
+slice_bounds-pattern-end c = sym (length-take-le _ _ (omega (
+  arith,
+  (work_asks (triplets_of c.args.t) _ _ _ _ _ _ _ _ _ c.in_default.ensures refl).0,
+)))
 
 pub slice_bounds-i-end : goal.slice_bounds-i-end
 slice_bounds-i-end c = omega (arith, (work_asks (triplets_of c.args.t) _ _ _ _ _ _ _ _ _ c.in_default.ensures refl).1, c.wide-entries.ensures.0)
 
 pub slice_bounds-pattern-end-2 : goal.slice_bounds-pattern-end-2
-slice_bounds-pattern-end-2 c = sym (length-take-le _ _ (omega (arith, (work_asks (triplets_of c.args.t) _ _ _ _ _ _ _ _ _ c.in_default.ensures refl).1, c.wide-entries.ensures.0)))
+slice_bounds-pattern-end-2 c = sym (length-take-le _ _ (omega
+    (arith, (work_asks (triplets_of c.args.t) _ _ _ _ _ _ _ _ _ c.in_default.ensures refl).1, c.wide-entries.ensures.0)))
 
 pub slice_bounds-v-end : goal.slice_bounds-v-end
 slice_bounds-v-end c = omega (arith, (work_asks (triplets_of c.args.t) _ _ _ _ _ _ _ _ _ c.in_default.ensures refl).2, c.wide-entries.ensures.0)
 
 pub slice_bounds-a-end : goal.slice_bounds-a-end
-slice_bounds-a-end c = sym (length-take-le _ _ (omega (arith, (work_asks (triplets_of c.args.t) _ _ _ _ _ _ _ _ _ c.in_default.ensures refl).2, c.wide-entries.ensures.0)))
+slice_bounds-a-end c = sym (length-take-le _ _ (omega (
+  arith,
+  (work_asks (triplets_of c.args.t) _ _ _ _ _ _ _ _ _ c.in_default.ensures refl).2,
+  c.wide-entries.ensures.0,
+)))
 
 pub run-requires : goal.run-requires
-run-requires c = work-prepared (triplets_of c.args.t) _ _ _ _ _ _ _ _ _ c.in_default.ensures refl c.wide-entries.ensures.0 (search rules) (search rules)
+run-requires c = work-prepared (triplets_of c.args.t) _ _ _ _ _ _ _ _ _ c.in_default.ensures refl c.wide-entries.ensures.0 (search rules)
+    (search rules)
 
 pub returns : goal.returns
 returns c = work-done (triplets_of c.args.t) _ _ _ _ _ _ _ _ _ c.in_default.ensures refl c.wide-entries.ensures.0 (byte c.args.engine)

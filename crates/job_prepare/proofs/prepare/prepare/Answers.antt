@@ -31,4 +31,5 @@ shared_ref_as_front-p c = omega (arith, (prepared_asks (triplets_of c.args.t) _ 
 pub returns : goal.returns
 returns c = prepared_analysed (triplets_of c.args.t) c.args.p.now c.args.i.now c.args.v.now
     c.assemble.new.p c.assemble.new.i c.assemble.new.v _ refl
-    c.in_ok-assemble.ensures (analysis c.args.tree.now c.args.up.now c.args.ui.now c.args.lp.now c.args.li.now) _ _ _ c.wide.ensures.0 c.analyse.ensures
+    c.in_ok-assemble.ensures (analysis c.args.tree.now c.args.up.now c.args.ui.now c.args.lp.now c.args.li.now) _ _ _ c.wide.ensures.0
+    c.analyse.ensures
