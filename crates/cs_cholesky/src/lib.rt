@@ -10,7 +10,7 @@ pub mod judge;
 
 use lists::refusal::Refusal;
 
-// A factoring's answer: its number, and with 11 the column and its pivot, else 0 and +0.0.
+// A factoring's answer: its number, and with 11 the column and its pivot, else 0 and +0.0. C reads it as it stands, so the refusal is its number.
 #[repr(C)]
 #[derive(Clone, Copy)]
 pub struct Factored {

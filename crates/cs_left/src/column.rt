@@ -23,7 +23,8 @@ pub fn load(k: usize, rows: &[u32], vals: &[f64], x: &mut [f64])
     }
 }
 
-// x(z) = x(z) + (value times f) for each row z. By place: a zip tests two ends at each row.
+// x(z) = x(z) + (value times f) for each row z. By place: a zip tests two ends at each row. The product has the same step and the next: each
+// asks something of its slices, so that it cannot be public in a crate below both.
 fn add_rows(rows: &[u32], vals: &[f64], f: f64, x: &mut [f64])
     requires { Entries (length x.old) rows.now vals.now }
     ensures { x.new ≡ over (plus_at f) rows.now vals.now x.old }

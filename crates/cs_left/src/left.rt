@@ -12,7 +12,7 @@ ghost use Rattle.cs_pattern.specs.Columns.{columns};
 ghost use Rattle.cs_pattern.specs.Lent.{analysis_of};
 ghost use Rattle.cs_cholesky.specs.Factor.{answer, factored, written};
 ghost use Rattle.cs_left.specs.Left.{put_at, quotients, left, number};
-ghost use Rattle.cs_left.specs.Lent.{square_of};
+ghost use Rattle.cs_cholesky.specs.Lent.{square_of};
 ghost use Rattle.cs_left.specs.Steps.{add_held, advance, zero_at, Gathers, Finishes, Asked};
 
 use crate::column::{add_columns, divide, load};

@@ -12,7 +12,8 @@ use cs_pattern::compare::Analysis;
 use lists::clear::fill;
 use lists::numbers::wide;
 
-// A row below k is absent from the rows held. Both lists rise, so that one pass over both tells.
+// A row below k is absent from the rows held. Both lists rise, so that one pass over both tells: two positions that move apart, which no
+// `for` counts.
 fn stray(k: usize, rows: &[u32], held: &[u32]) -> bool
     requires { (rises rows.now ≡ true) × (rises held.now ≡ true) }
     ensures { result ≡ stray_in k held.now rows.now }

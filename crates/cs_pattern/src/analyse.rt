@@ -21,7 +21,7 @@ use lists::refusal::Refusal;
 use lists::sides::copy;
 use lists::sums::cumsum;
 
-// An output is shorter than needed, where U has t entries.
+// An output is shorter than needed, where U has t entries. The outputs are lent by `&mut`, so that their lengths are what is handed on.
 fn too_short(n: usize, t: usize, tree: usize, up: usize, ui: usize, lp: usize, li: usize) -> bool
     requires { n ≤ 65535 }
     ensures { result ≡ (nat_lt tree n || nat_lt up (n + 1) || nat_lt ui t || nat_lt lp (n + 1) || nat_lt li t) }

@@ -11,6 +11,7 @@ use cs_matrix::matrix::Pattern;
 use lists::clear::fill;
 use lists::numbers::wide;
 
+// In place of a parent, in the tree that callers are given.
 const ROOT: u32 = u32::MAX;
 
 // Column k's part in the tree. The rows rise, so that the first that is not below k ends it.

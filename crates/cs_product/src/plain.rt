@@ -12,7 +12,8 @@ use lists::numbers::wide;
 use lists::sides::add_times;
 use lists::tight::tight;
 
-// A column of A times β, added to x row by row.
+// A column of A times β, added to x row by row. The left factoring has the same step and the next: each asks something of its slices, so
+// that it cannot be public in a crate below both.
 fn add_rows(beta: f64, rows: &[u32], vals: &[f64], x: &mut [f64])
     requires { Entries (length x.old) rows.now vals.now }
     ensures { x.new ≡ over (plus_at beta) rows.now vals.now x.old }

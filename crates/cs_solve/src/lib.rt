@@ -12,7 +12,7 @@ pub mod tr_solve;
 
 use lists::refusal::Refusal;
 
-// A solve's answer: its number, and with 10 the column, else 0.
+// A solve's answer: its number, and with 10 the column, else 0. C reads it as it stands, so the refusal is its number.
 #[repr(C)]
 #[derive(Clone, Copy)]
 pub struct Solved {

@@ -49,7 +49,8 @@ fn transposed(a: Matrix<'_>, b: &mut [f64])
     }
 }
 
-// Solves with the lower triangle of a matrix transposed, the right side b in place.
+// Solves with the lower triangle of a matrix transposed, the right side b in place. Alike the forward solve in its two tests alone: what one
+// function over both would take are the search and the steps, which is all of it.
 pub fn tr_solve_lower_triangular(a: Matrix<'_>, b: &mut [f64]) -> Solved
     ensures { let a = matrix_of a.entry in
         let old = b.old in

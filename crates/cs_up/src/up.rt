@@ -9,7 +9,7 @@ ghost use Rattle.cs_tree.specs.Pattern.{upper, entries};
 ghost use Rattle.cs_pattern.specs.Columns.{columns};
 ghost use Rattle.cs_pattern.specs.Lent.{analysis_of};
 ghost use Rattle.cs_cholesky.specs.Factor.{answer as answer_of, factored, written};
-ghost use Rattle.cs_up.specs.Lent.{square_of};
+ghost use Rattle.cs_cholesky.specs.Lent.{square_of};
 ghost use Rattle.cs_up.specs.Steps.{Closes, Ready, Turns, Gone, Fills};
 ghost use Rattle.cs_up.specs.Up.{up as upOf, number};
 

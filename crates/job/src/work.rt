@@ -13,7 +13,7 @@ use job_file::read::Engine;
 use job_prepare::prepare::prepare;
 use lists::numbers::wide;
 
-// Prepared, then run: the right side b becomes the solution.
+// Prepared, then run: the right side b becomes the solution. Arrays of the program's maxima, as there is no heap.
 pub fn work(engine: Engine, t: Triplets<'_>, b: &mut [f64]) -> Solved
     ensures { let s = worked (byte engine) (triplets_of t.entry) b.old in
         (result ≡ answered s) × (result.number ≡ 0 → b.new ≡ s.x) }

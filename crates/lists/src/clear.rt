@@ -11,7 +11,8 @@ pub fn fill<T: Copy>(x: T, n: usize, out: &mut [T])
     }
 }
 
-// Zeros in the first n places of each scratch slice.
+// Zeros in the first n places of each scratch slice. The four are parameters here and in each call that takes them, and so are outputs: of
+// a struct of `&mut` every contract would have to say, field by field, that it still holds the slices that it was made of.
 pub fn clear_scratch(n: usize, w1: &mut [u32], w2: &mut [u32], w3: &mut [u32], x: &mut [f64])
     ensures { scratch w1.new w2.new w3.new x.new
         ≡ wiped n (scratch w1.old w2.old w3.old x.old) }

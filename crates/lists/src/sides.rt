@@ -13,7 +13,8 @@ pub fn copy<T: Copy>(from: &[T], out: &mut [T])
     out[..n].copy_from_slice(&from[..n]);
 }
 
-// To each element its value times f is added.
+// To each element its value times f is added. The solves and the up factoring subtract, in another order of the factors: their own loops,
+// since no law of std says that the float operations agree.
 pub fn add_times(vals: &[f64], f: f64, x: &mut [f64])
     ensures { x.new ≡ zipped (λ a v. add binary64 a (mul binary64 v f)) x.old vals.now }
 {

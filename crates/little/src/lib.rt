@@ -1,4 +1,5 @@
-// Little-endian numbers in byte slices. Past the end of the slice a byte is read as 0, and none is written.
+// Little-endian numbers in byte slices. Past the end of the slice a byte is read as 0, and none is written. Four readers, each of the one
+// before it: one over a const width would give every caller a u64 to cast down.
 #![tactic(auto)]
 
 ghost use Rattle.std.specs.Prelude.{◌≡◌, ◌<◌, drop};

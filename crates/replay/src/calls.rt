@@ -23,7 +23,7 @@ use lists::sums::cumsum;
 use std::io;
 use std::io::Read;
 
-// What any call answers: its number, and the column and the pivot of those that have one.
+// What any call answers, as a case is written: its number, and the column and the pivot of those that have one.
 #[derive(Clone, Copy)]
 pub struct Answer {
     pub number: u32,

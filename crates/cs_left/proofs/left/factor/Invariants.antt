@@ -1,5 +1,5 @@
 -- `factor` meets its contract. Assumes nothing.
-use Rattle.cs_left.specs.Lent.{square_of}
+use Rattle.cs_cholesky.specs.Lent.{square_of}
 use Rattle.cs_left.proofs.Turning.{State}
 use Rattle.cs_left.proofs.left.factor.Given as goal
 

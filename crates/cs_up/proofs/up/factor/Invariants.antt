@@ -1,6 +1,6 @@
 -- `factor`: the loop of proofs/Factoring.antt. Assumes nothing.
 use Rattle.cs_pattern.specs.Lent.{analysis_of}
-use Rattle.cs_up.specs.Lent.{square_of}
+use Rattle.cs_cholesky.specs.Lent.{square_of}
 use Rattle.cs_up.proofs.Factoring.{Factoring}
 use Rattle.cs_up.proofs.up.factor.Given as goal
 
