@@ -23,6 +23,7 @@ fn count_walk(k: u32, row: u32, par: &[u32], mark: &mut [u32], counts: &mut [u32
     let stamp = k + 1;
     let mut i = wide(row);
     let mut len = 0;
+    // climbs by parents
     while i <= top {
         if mark[i] == stamp {
             return len;

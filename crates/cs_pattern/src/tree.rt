@@ -11,7 +11,7 @@ use cs_matrix::matrix::Pattern;
 use lists::clear::fill;
 use lists::numbers::wide;
 
-// In place of a parent, in the tree that callers are given.
+// No parent, in the tree that callers are given; in `anc`, no ancestor noted.
 const ROOT: u32 = u32::MAX;
 
 // Column k's part in the tree. The rows rise, so that the first that is not below k ends it.
@@ -25,6 +25,7 @@ fn tree_column(k: u32, rows: &[u32], par: &mut [u32], anc: &mut [u32])
         if i >= top {
             return;
         }
+        // climbs by the noted ancestors; document 01 names the form, a labelled loop left by break
         'climb: while i < top {
             let a = anc[i];
             anc[i] = k;
