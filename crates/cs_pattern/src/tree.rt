@@ -7,6 +7,7 @@ ghost use Rattle.cs_tree.specs.Tree.{forest, climbs, tree};
 ghost use Rattle.cs_pattern.specs.Columns.{columns};
 ghost use Rattle.cs_pattern.specs.Lent.{square_of};
 
+use crate::rows::rows;
 use cs_matrix::matrix::Pattern;
 use lists::clear::fill;
 use lists::numbers::wide;
@@ -43,12 +44,10 @@ pub fn elimination_tree(a: Pattern<'_>, par: &mut [u32], anc: &mut [u32])
     requires { ValidPattern (square_of a) × (length par.old ≡ a.ncols) × (length anc.old ≡ a.ncols) }
     ensures { par.new ≡ tree (columns (square_of a.entry)) }
 {
-    let Pattern { ncols: n, p, i, .. } = a;
+    let n = a.ncols;
     fill(ROOT, n, par);
     fill(ROOT, n, anc);
     for k in 0..n {
-        let start = wide(p[k]);
-        let end = wide(p[k + 1]);
-        tree_column(k as u32, &i[start..end], par, anc);
+        tree_column(k as u32, rows(a, k), par, anc);
     }
 }
