@@ -13,8 +13,7 @@ pub loop-k-init : goal.loop-k-init
 loop-k-init c = falling_start c.requires.1 (columns_long c.requires.0) (as_many c.requires.0 c.requires.2) c.requires.3 c.requires.4
 
 pub lay-low-requires : goal.lay-low-requires
-lay-low-requires c = falls_asks c.requires.0 c.requires.1 c.loop-k.invariant c.loop-k-test.true c.rows.ensures
-    (omega arith)
+lay-low-requires c = falls_asks c.requires.0 c.requires.1 c.loop-k.invariant c.loop-k-test.true c.rows.ensures (omega arith)
 
 pub offset_bounds-ui-low : goal.offset_bounds-ui-low
 offset_bounds-ui-low c = omega (
@@ -24,11 +23,12 @@ offset_bounds-ui-low c = omega (
 )
 
 pub slice_bounds-lower_column-end : goal.slice_bounds-lower_column-end
-slice_bounds-lower_column-end c = falls-end c.requires.0 c.requires.1 c.loop-k.invariant c.loop-k-test.true c.rows.ensures (omega arith) c.lay-low.auto.out c.lay-low.ensures
+slice_bounds-lower_column-end c = falls-end c.requires.0 c.requires.1 c.loop-k.invariant c.loop-k-test.true c.rows.ensures (omega arith)
+    c.lay-low.auto.out c.lay-low.ensures
 
 pub lower_column-requires : goal.lower_column-requires
-lower_column-requires c = falls-last c.requires.0 c.requires.1 c.loop-k.invariant c.loop-k-test.true c.rows.ensures
-    (omega arith) c.lay-low.auto.out c.lay-low.ensures
+lower_column-requires c = falls-last c.requires.0 c.requires.1 c.loop-k.invariant c.loop-k-test.true c.rows.ensures (omega arith)
+    c.lay-low.auto.out c.lay-low.ensures
 
 pub overflow_cast-up-in-loop-k : goal.overflow_cast-up-in-loop-k
 overflow_cast-up-in-loop-k c = omega (
@@ -38,8 +38,8 @@ overflow_cast-up-in-loop-k c = omega (
 )
 
 pub loop-k-preserved : goal.loop-k-preserved
-loop-k-preserved c = falls-turn c.requires.0 c.requires.1 c.loop-k.invariant c.loop-k-test.true c.rows.ensures
-    (omega arith) c.lay-low.auto.out c.lay-low.ensures c.lay-low.auto.mark c.lower_column.ensures
+loop-k-preserved c = falls-turn c.requires.0 c.requires.1 c.loop-k.invariant c.loop-k-test.true c.rows.ensures (omega arith)
+    c.lay-low.auto.out c.lay-low.ensures c.lay-low.auto.mark c.lower_column.ensures
 
 pub returns : goal.returns
 returns c = falling_done c.requires.1 c.args.up.now c.args.t (columns_long c.requires.0) c.loop-k.invariant (omega (arith, c.loop-k-test.false))
