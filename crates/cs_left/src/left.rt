@@ -92,11 +92,7 @@ fn factor(
     for k in 0..a.pattern.ncols {
         let pivot = gather(k, a, given, lx, next, x);
         if !(pivot > 0.0) {
-            return Err(Factored {
-                number: Refusal::BadPivot.number(),
-                column: k as u32,
-                pivot,
-            });
+            return Err(Factored::stopped(k as u32, pivot));
         }
         finish(k, root(pivot), given, lx, next, x);
     }
@@ -119,11 +115,7 @@ fn work(
         fill(0.0, wide(given.up[a.pattern.ncols]), lx);
         return stopped;
     }
-    Factored {
-        number: 0,
-        column: 0,
-        pivot: 0.0,
-    }
+    Factored::DONE
 }
 
 // Factors a matrix by its lent analysis: L's values are written to lx.

@@ -21,7 +21,6 @@ use cs_matrix::matrix::{Matrix, Pattern};
 use cs_pattern::compare::Analysis;
 use lists::clear::{clear_scratch, fill};
 use lists::numbers::wide;
-use lists::refusal::Refusal;
 use root::root;
 
 // Column k down to its pivot, which is the answer.
@@ -75,11 +74,7 @@ fn factor(
     for k in 0..a.pattern.ncols {
         let pivot = column(k, a, given, lx, next, x);
         if !(pivot > 0.0) {
-            return Err(Factored {
-                number: Refusal::BadPivot.number(),
-                column: k as u32,
-                pivot,
-            });
+            return Err(Factored::stopped(k as u32, pivot));
         }
         close(k, pivot, given.lp, lx, next);
     }
@@ -106,11 +101,7 @@ fn work(
         fill(0.0, t, lx);
         return stopped;
     }
-    Factored {
-        number: 0,
-        column: 0,
-        pivot: 0.0,
-    }
+    Factored::DONE
 }
 
 // The up factoring of a matrix by a lent analysis: L's values in lx.

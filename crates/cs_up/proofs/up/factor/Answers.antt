@@ -6,7 +6,7 @@ pub loop-k-init : goal.loop-k-init
 loop-k-init c = factoring-start c.requires
 
 pub returns-then-not-pivot : goal.returns-then-not-pivot
-returns-then-not-pivot c = rw c.number.ensures (factoring_stop c.loop-k.invariant c.loop-k-test.true c.column-pivot.ensures c.if-not-pivot.true)
+returns-then-not-pivot c = rw c.stopped.ensures (factoring_stop c.loop-k.invariant c.loop-k-test.true c.column-pivot.ensures c.if-not-pivot.true)
 
 pub close-requires : goal.close-requires
 close-requires c = factoring_closes c.loop-k.invariant c.loop-k-test.true c.column-pivot.ensures c.if-not-pivot.false c.column-pivot.auto.lx
