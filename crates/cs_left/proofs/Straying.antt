@@ -22,7 +22,6 @@ use Rattle.cs_tree.specs.Pattern.{analysis}
 use Rattle.lists.proofs.Spots.{Spot, spot, member_at}
 use Rattle.cs_matrix.proofs.Pointers.{length-column, get_or-column}
 use Rattle.cs_left.specs.Steps.{stray_in, Within, Rises, Seeks}
-use Rattle.cs_left.proofs.Within.{within-part}
 
 -- ---- `stray`: rows before q are no strays, and all that is held before `at` is below the rows from q on
 pub record Straying (k : ℕ) (rows held : List ℕ) (q at : ℕ) : Type 0 where
@@ -110,19 +109,9 @@ module _ {k : ℕ} {rows held : List ℕ} {q at : ℕ} (w : Straying k rows held
   straying_end h = sym (w.rest ∙ ap (stray_in k held) (left-none rows q h))
 
 -- ---- `strays`
-module _ {n k a e s f : ℕ} {p i lp li : List ℕ} (v : Rises n p i × Rises n lp li) (h : k < n) (x : a ≡ get_or p k 0) (y : e ≡ get_or p (k + 1) 0)
-    (z : s ≡ get_or lp k 0) (t : f ≡ get_or lp (k + 1) 0) where
-  rows_are : part a e i ≡ column p k i
-  rows_are = within-part (v.0.each k h) x y i
-
-  held_are : part s f li ≡ column lp k li
-  held_are = within-part (v.1.each k h) z t li
-
-  pub stray_asks : (rises (part a e i) ≡ true) × (rises (part s f li) ≡ true)
-  stray_asks = (rw rows_are (v.0.rise k h), rw held_are (v.1.rise k h))
-
-  pub stray_here : {r : Bool} → r ≡ stray_in k (part s f li) (part a e i) → stray_in k (column lp k li) (column p k i) ≡ r
-  stray_here g = sym (g ∙ ap (λ (l : List ℕ). stray_in k l (part a e i)) held_are ∙ ap (stray_in k (column lp k li)) rows_are)
+pub stray_asks : {n k : ℕ} {p i lp li rows held : List ℕ} → rows ≡ column p k i → held ≡ column lp k li → Rises n p i × Rises n lp li → k < n
+    → (rises rows ≡ true) × (rises held ≡ true)
+stray_asks {k = k} x z v h = (rw x (v.0.rise k h), rw z (v.1.rise k h))
 
 -- ---- `stray_at`: no row is a stray that is at or above the diagonal or has a place in L
 none_stray : (k : ℕ) (held rows : List ℕ) → ((q : ℕ) → q < length rows → (get_or rows q 0 ≤ k) ⊎ Memᴰ (get_or rows q 0) held) →
@@ -141,8 +130,8 @@ module _ {m n k : ℕ} {p i tr up ui lp li next : List ℕ} (w : Seeks k (patter
   seeks_both = (w.sought.stored, w.sought.held)
 
   -- all rows of the column are met
-  pub seeks_none : {a e : ℕ} → a ≡ get_or next k 0 → e ≡ get_or p (k + 1) 0 → a ≡ e → false ≡ stray_in k (column lp k li) (column p k i)
-  seeks_none f g h = none_stray k (column lp k li) (column p k i) each
+  pub seeks_none : get_or next k 0 ≡ get_or p (k + 1) 0 → false ≡ stray_in k (column lp k li) (column p k i)
+  seeks_none h = none_stray k (column lp k li) (column p k i) each
     where
       each : (q : ℕ) → q < length (column p k i) → (get_or (column p k i) q 0 ≤ k) ⊎ Memᴰ (get_or (column p k i) q 0) (column lp k li)
       each q m =

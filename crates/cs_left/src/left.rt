@@ -15,7 +15,7 @@ ghost use Rattle.cs_left.specs.Left.{put_at, quotients, left, number};
 ghost use Rattle.cs_cholesky.specs.Lent.{square_of};
 ghost use Rattle.cs_left.specs.Steps.{add_held, advance, zero_at, Gathers, Finishes, Asked};
 
-use crate::column::{add_columns, divide, load};
+use crate::column::{add_columns, column, divide, load};
 use crate::stray::strays;
 use cs_cholesky::Factored;
 use cs_cholesky::judge::judge;
@@ -47,12 +47,8 @@ fn gather(
     let Matrix { pattern, v } = a;
     let Pattern { p, i, .. } = pattern;
     let Analysis { up, ui, lp, li, .. } = given;
-    let s = wide(p[k]);
-    let e = wide(p[k + 1]);
-    load(k, &i[s..e], &v[s..e], x);
-    let b = wide(up[k]);
-    let f = wide(up[k + 1]);
-    add_columns(k, &ui[b..f], lp, li, lx, next, x);
+    load(k, column(k, p, i), column(k, p, v), x);
+    add_columns(k, column(k, up, ui), lp, li, lx, next, x);
     x[k]
 }
 

@@ -6,6 +6,7 @@ ghost use Rattle.cs_matrix.specs.Lent.{pattern_of};
 ghost use Rattle.cs_pattern.specs.Lent.{analysis_of};
 ghost use Rattle.cs_left.specs.Steps.{stray_in, stray_at, some_stray, Mirrors, Seeks, Sought};
 
+use crate::column::column;
 use crate::mirror::meet_columns;
 use cs_matrix::matrix::Pattern;
 use cs_pattern::compare::Analysis;
@@ -48,14 +49,10 @@ fn stray_at(k: usize, a: Pattern<'_>, given: Analysis<'_>, next: &[u32]) -> bool
 {
     let Pattern { p, i, .. } = a;
     let Analysis { lp, li, .. } = given;
-    let s = wide(p[k]);
-    let e = wide(p[k + 1]);
-    if wide(next[k]) == e {
+    if next[k] == p[k + 1] {
         return false;
     }
-    let b = wide(lp[k]);
-    let f = wide(lp[k + 1]);
-    stray(k, &i[s..e], &li[b..f])
+    stray(k, column(k, p, i), column(k, lp, li))
 }
 
 // Some column has.
