@@ -12,7 +12,7 @@ use Rattle.lists.proofs.Parts.{length_part}
 use Rattle.cs_matrix.specs.Matrix.{matrix, column}
 use Rattle.cs_tree.specs.Pattern.{analysis}
 use Rattle.cs_left.specs.Left.{put_at, quotients}
-use Rattle.cs_left.specs.Steps.{zero_at, add_held, advance, Places, Within, Crossings, Gathers, Finishes}
+use Rattle.cs_left.specs.Steps.{zero_at, add_held, advance, Places, Crossings, Gathers, Finishes}
 
 pub part-column : {A : Type 0} (p : List ℕ) (k : ℕ) {a e : ℕ} → a ≡ get_or p k 0 → e ≡ get_or p (k + 1) 0 → (l : List A) → part a e l ≡ column p k l
 unfolding column

@@ -13,30 +13,15 @@ use cs_pattern::compare::Analysis;
 use lists::clear::fill;
 use lists::numbers::wide;
 
-// A row below k is absent from the rows held. Both lists rise, so that one pass over both tells: two positions that move apart, which no
-// `for` counts.
+// A row below k is absent from the rows held. Both lists rise, so that each search goes on behind the row found last.
 fn stray(k: usize, rows: &[u32], held: &[u32]) -> bool
     requires { (rises rows.now ≡ true) × (rises held.now ≡ true) }
     ensures { result ≡ stray_in k held.now rows.now }
 {
-    let mut q = 0;
-    let mut at = 0;
-    while q < rows.len() {
-        let row = wide(rows[q]);
-        if row > k {
-            if at >= held.len() {
-                return true;
-            }
-            let h = wide(held[at]);
-            if h > row {
-                return true;
-            }
-            if h == row {
-                q += 1;
-            }
-            at += 1;
-        } else {
-            q += 1;
+    let mut rest = held.iter();
+    for &row in rows {
+        if wide(row) > k && !rest.any(|&h| h == row) {
+            return true;
         }
     }
     false

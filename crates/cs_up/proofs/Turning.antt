@@ -27,7 +27,7 @@ use Rattle.cs_pattern.specs.Columns.{columns}
 use Rattle.cs_pattern.proofs.Columns.{column-at}
 use Rattle.cs_cholesky.specs.Factor.{Step}
 use Rattle.cs_cholesky.specs.Served.{Served}
-use Rattle.cs_cholesky.proofs.Serving.{laid_inside, laid_order, laid-part}
+use Rattle.cs_cholesky.proofs.Serving.{laid_inside, laid_order}
 use Rattle.cs_up.specs.Steps.{way, held, goes, start_on, Loads, Cut, Stands, Rows, Rowed, Closes, Ready, Gone}
 use Rattle.cs_up.specs.Up.{Way, put_at, row_at, rows_at, start_at, up_step}
 use Rattle.cs_up.proofs.Holding.{held_more}
