@@ -7,7 +7,8 @@ ghost use Rattle.cs_matrix.specs.Lent.{matrix_of};
 ghost use Rattle.cs_product.specs.Product.{add_column};
 ghost use Rattle.cs_product.specs.Steps.{Met, Adding, Starting};
 
-use cs_matrix::matrix::{Matrix, Pattern};
+use crate::column::column;
+use cs_matrix::matrix::Matrix;
 use lists::numbers::wide;
 
 // A column of A times β, added to x. The answer is how many rows are met now.
@@ -52,24 +53,11 @@ pub fn accumulate(
     ensures { (x.new ≡ over (add_column (matrix_of a.entry)) rows.now vals.now x.old) ×
         Met a.entry.pattern.nrows stamp mark.new met.new x.new result }
 {
-    let Matrix { pattern, v } = a;
-    let Pattern { nrows, p, i, .. } = pattern;
     let mut many = 0;
     for (&col, &val) in rows.iter().zip(vals) {
         let c = wide(col);
-        let start = wide(p[c]);
-        let end = wide(p[c + 1]);
-        many = add_column(
-            nrows,
-            stamp,
-            val,
-            &i[start..end],
-            &v[start..end],
-            mark,
-            met,
-            x,
-            many,
-        );
+        let (a_rows, a_vals) = column(a, c);
+        many = add_column(a.pattern.nrows, stamp, val, a_rows, a_vals, mark, met, x, many);
     }
     many
 }
