@@ -211,22 +211,22 @@ module _ (a : Matrix) (stamp : ℕ) (rows : List ℕ) (vals : List Float) where
       col_below = omega (arith, s.below k h)
 
       module _ {us : List ℕ} {ys : List Float} (d : IsColumn a c us ys) where
-        pub accumulating_asks : Adding nrows stamp us ys mark met x many
-        accumulating_asks = record {
+        pub accumulating_asks : Adding (length x) stamp us ys mark met x many
+        accumulating_asks = rw s.met_now.x_long (record {
           alike = column-alike s.valid col_below d;
           below = column-below s.valid col_below d;
           met_so_far = s.met_now;
-        }
+        })
 
         pub accumulating_turn : {mark' met' : List ℕ} {x' : List Float} {next : ℕ} → x' ≡ over (plus_at (get_or vals k nan)) us ys x →
-            Met nrows stamp mark' met' x' next → Accumulating x₀ mark' met' x' next (k + 1)
+            Met (length x) stamp mark' met' x' next → Accumulating x₀ mark' met' x' next (k + 1)
         unfolding add_column
         accumulating_turn q m =
             record {
               valid = s.valid;
               alike = s.alike;
               below = s.below;
-              met_now = m;
+              met_now = rw s.met_now.x_long at m;
               is = over-turn (add_column a) rows vals 0 nan s.alike s.is h (q ∙ (rw (d.rows_are, d.vals_are, ec)));
             }
 
