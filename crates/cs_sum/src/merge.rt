@@ -7,6 +7,7 @@ ghost use Rattle.cs_sum.specs.Sum.{summed_at};
 
 use crate::alike::{add_values, same_rows};
 use cs_columns::rows::row_at;
+use std::cmp::Ordering::{Equal, Greater, Less};
 
 // How many different rows two columns have. A merge moves two positions apart, which no `for` counts.
 pub fn count_rows(nrows: usize, ai: &[u32], bi: &[u32]) -> usize
@@ -19,20 +20,21 @@ pub fn count_rows(nrows: usize, ai: &[u32], bi: &[u32]) -> usize
     while ka < ai.len() || kb < bi.len() {
         let r = row_at(ai, ka);
         let s = row_at(bi, kb);
-        if r < s {
-            ka += 1;
-        } else if s < r {
-            kb += 1;
-        } else {
-            ka += 1;
-            kb += 1;
+        match r.cmp(&s) {
+            Less => ka += 1,
+            Greater => kb += 1,
+            Equal => {
+                ka += 1;
+                kb += 1;
+            }
         }
         count += 1;
     }
     count
 }
 
-// The rows of two columns with their sums, written from `start` on, row by row. The answer is the place behind them.
+// The rows of two columns with their sums, written from `start` on, row by row. The answer is the place behind them. Here too two
+// positions move apart.
 fn walk(
     nrows: usize,
     start: usize,
@@ -54,23 +56,27 @@ fn walk(
     let mut r = row_at(ai, 0);
     let mut s = row_at(bi, 0);
     while ka < ai.len() || kb < bi.len() {
-        if r < s {
-            oi[at] = r;
-            ov[at] = av[ka] * 1.0;
-            ka += 1;
-            r = row_at(ai, ka);
-        } else if s < r {
-            oi[at] = s;
-            ov[at] = bv[kb] * 1.0;
-            kb += 1;
-            s = row_at(bi, kb);
-        } else {
-            oi[at] = r;
-            ov[at] = av[ka] * 1.0 + bv[kb] * 1.0;
-            ka += 1;
-            kb += 1;
-            r = row_at(ai, ka);
-            s = row_at(bi, kb);
+        match r.cmp(&s) {
+            Less => {
+                oi[at] = r;
+                ov[at] = av[ka] * 1.0;
+                ka += 1;
+                r = row_at(ai, ka);
+            }
+            Greater => {
+                oi[at] = s;
+                ov[at] = bv[kb] * 1.0;
+                kb += 1;
+                s = row_at(bi, kb);
+            }
+            Equal => {
+                oi[at] = r;
+                ov[at] = av[ka] * 1.0 + bv[kb] * 1.0;
+                ka += 1;
+                kb += 1;
+                r = row_at(ai, ka);
+                s = row_at(bi, kb);
+            }
         }
         at += 1;
     }
