@@ -271,3 +271,11 @@ merging_room {n} {l} {m} v = rw v.is (chosen_grows (either l m) v.bound n v.with
 pub either-most : (n : ℕ) (l m : List ℕ) → length (chosen n (either l m)) ≤ length l + length m
 unfolding either
 either-most n l m = omega (arith, chosen-or n (either l m) (λ r. lists r l) (λ r. lists r m) (λ r h e. e), chosen-lists n l, chosen-lists n m)
+
+-- rows below n, whichever number not below it the choice runs to
+pub either-fewer : {n b : ℕ} (l m : List ℕ) → n ≤ b → ((k : ℕ) → k < length l → get_or l k 0 < n) → ((k : ℕ) → k < length m → get_or m k 0 < n)
+    → chosen b (either l m) ≡ chosen n (either l m)
+unfolding either
+either-fewer {n} {b} l m h f g =
+    chosen-rest (either l m) n b h (λ r o q.
+    (rw (lists_nowhere r l (λ k i e. absurd (omega (arith, f k i))), lists_nowhere r m (λ k i e. absurd (omega (arith, g k i)))) (λ i. false)))

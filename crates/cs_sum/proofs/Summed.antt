@@ -21,7 +21,7 @@ use Rattle.cs_columns.proofs.Filling.{room-all}
 use Rattle.cs_columns.proofs.Handing.{column-alike, column-below, column-up}
 use Rattle.cs_columns.proofs.Joining.{joined-none, length_more, joined-steps, joined_alike, entries-within, entries_valid}
 use Rattle.cs_columns.proofs.Judging.{alone_7, early_two, Passed, passed, Roomy, roomy, short_fewer, short_for_lem}
-use Rattle.cs_columns.proofs.Merging.{either-most}
+use Rattle.cs_columns.proofs.Merging.{either-most, either-fewer}
 use Rattle.cs_sum.specs.Steps.{Risen, Column, Alike, Ready}
 use Rattle.cs_sum.specs.Sum.{summed_at, row_of, value_of, sum, differ, number}
 
@@ -67,25 +67,31 @@ module _ (a b : Matrix) where
     b_has = omega (arith, v.cols)
 
     module _ {l m : List ℕ} {x y : List Float} (p : IsColumn a j l x) (q : IsColumn b j m y) where
-      pub rows_is : chosen nrows (either l m) ≡ rows j
+      b_below : (k : ℕ) → k < length m → get_or m k 0 < nrows
+      b_below = rw v.rows (column-below v.second b_has q)
+
+      fewer : chosen 65535 (either l m) ≡ chosen nrows (either l m)
+      fewer = either-fewer l m v.first.pattern.rows (column-below v.first h p) b_below
+
+      pub rows_is : chosen 65535 (either l m) ≡ rows j
       unfolding row_of
-      rows_is = rw (p.rows_are, q.rows_are)
+      rows_is = fewer ∙ (rw (p.rows_are, q.rows_are))
 
-      pub vals_is : map (summed_at l x m y) (chosen nrows (either l m)) ≡ vals j
+      pub vals_is : map (summed_at l x m y) (chosen 65535 (either l m)) ≡ vals j
       unfolding value_of row_of
-      vals_is = rw (p.rows_are, p.vals_are, q.rows_are, q.vals_are)
+      vals_is = rw (fewer, p.rows_are, p.vals_are, q.rows_are, q.vals_are)
 
-      pub risen : Risen nrows l m
+      pub risen : Risen 65535 l m
       risen = record {
-        small = v.first.pattern.rows;
-        l_below = column-below v.first h p;
-        m_below = λ k g. omega (arith, v.rows, column-below v.second b_has q k g);
+        small = omega arith;
+        l_below = λ k g. omega (arith, v.first.pattern.rows, column-below v.first h p k g);
+        m_below = λ k g. omega (arith, v.first.pattern.rows, b_below k g);
         l_up = column-up v.first h p;
         m_up = column-up v.second b_has q;
       }
 
       pub columned : {at : ℕ} {oi : List ℕ} {ov : List Float} → at + length (rows j) ≤ 4194304 → at + length (rows j) ≤ length oi →
-          at + length (rows j) ≤ length ov → Column nrows at l x m y oi ov
+          at + length (rows j) ≤ length ov → Column 65535 at l x m y oi ov
       columned f g k = record {
         risen = risen;
         a_alike = column-alike v.first h p;
@@ -106,7 +112,7 @@ module _ (a b : Matrix) where
 
   module _ {places j : ℕ} (s : Tallying places j) where
     module _ (h : j < ncols) {l m : List ℕ} {x y : List Float} (p : IsColumn a j l x) (q : IsColumn b j m y) {r : ℕ}
-        (f : r ≡ length (chosen nrows (either l m))) where
+        (f : r ≡ length (chosen 65535 (either l m))) where
       next : places + r ≡ length (joined rows (j + 1))
       next = omega (arith, s.is, f, cong length (rows_is s.ask h p q), length_more rows j)
 
@@ -197,13 +203,13 @@ module _ (a b : Matrix) where
     writing_v = filling_v nrows ncols rows vals s.filling
 
     module _ (h : j < ncols) {l m : List ℕ} {x y : List Float} (p : IsColumn a j l x) (q : IsColumn b j m y) where
-      pub writing_asks : Column nrows at l x m y oi ov
+      pub writing_asks : Column 65535 at l x m y oi ov
       writing_asks = columned s.ask.alike h p q (omega (arith, room-all nrows ncols rows vals s.filling h, s.ask.few))
           (room_i nrows ncols rows vals s.filling h) (room_v nrows ncols rows vals s.filling h)
 
-      pub writing_turn : {r : ℕ} {oi' : List ℕ} {ov' : List Float} → r ≡ at + length (chosen nrows (either l m))
-          → oi' ≡ laid at oi (chosen nrows (either l m))
-          → ov' ≡ laid at ov (map (summed_at l x m y) (chosen nrows (either l m)))
+      pub writing_turn : {r : ℕ} {oi' : List ℕ} {ov' : List Float} → r ≡ at + length (chosen 65535 (either l m))
+          → oi' ≡ laid at oi (chosen 65535 (either l m))
+          → ov' ≡ laid at ov (map (summed_at l x m y) (chosen 65535 (either l m)))
           → Writing op₀ oi₀ ov₀ (set op j at) oi' ov' r (j + 1)
       writing_turn f g k =
           record {

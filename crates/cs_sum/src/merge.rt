@@ -10,9 +10,9 @@ use cs_columns::rows::row_at;
 use std::cmp::Ordering::{Equal, Greater, Less};
 
 // How many different rows two columns have. A merge moves two positions apart, which no `for` counts.
-pub fn count_rows(nrows: usize, ai: &[u32], bi: &[u32]) -> usize
-    requires { Risen nrows ai.now bi.now }
-    ensures { result ≡ length (chosen nrows (either ai.now bi.now)) }
+pub fn count_rows(ai: &[u32], bi: &[u32]) -> usize
+    requires { Risen 65535 ai.now bi.now }
+    ensures { result ≡ length (chosen 65535 (either ai.now bi.now)) }
 {
     let mut count = 0;
     let mut ka = 0;
@@ -36,7 +36,6 @@ pub fn count_rows(nrows: usize, ai: &[u32], bi: &[u32]) -> usize
 // The rows of two columns with their sums, written from `start` on, row by row. The answer is the place behind them. Here too two
 // positions move apart.
 fn walk(
-    nrows: usize,
     start: usize,
     ai: &[u32],
     av: &[f64],
@@ -45,8 +44,8 @@ fn walk(
     oi: &mut [u32],
     ov: &mut [f64],
 ) -> usize
-    requires { Column nrows start ai.now av.now bi.now bv.now oi.old ov.old }
-    ensures { let rows = chosen nrows (either ai.now bi.now) in
+    requires { Column 65535 start ai.now av.now bi.now bv.now oi.old ov.old }
+    ensures { let rows = chosen 65535 (either ai.now bi.now) in
         let vals = map (summed_at ai.now av.now bi.now bv.now) rows in
         (result ≡ start + length rows) × (oi.new ≡ laid start oi.old rows) × (ov.new ≡ laid start ov.old vals) }
 {
@@ -85,7 +84,6 @@ fn walk(
 
 // The same, where columns that have the same rows are taken side by side.
 pub fn merge(
-    nrows: usize,
     start: usize,
     ai: &[u32],
     av: &[f64],
@@ -94,8 +92,8 @@ pub fn merge(
     oi: &mut [u32],
     ov: &mut [f64],
 ) -> usize
-    requires { Column nrows start ai.now av.now bi.now bv.now oi.old ov.old }
-    ensures { let rows = chosen nrows (either ai.now bi.now) in
+    requires { Column 65535 start ai.now av.now bi.now bv.now oi.old ov.old }
+    ensures { let rows = chosen 65535 (either ai.now bi.now) in
         let vals = map (summed_at ai.now av.now bi.now bv.now) rows in
         (result ≡ start + length rows) × (oi.new ≡ laid start oi.old rows) × (ov.new ≡ laid start ov.old vals) }
 {
@@ -104,5 +102,5 @@ pub fn merge(
         add_values(ai, av, bv, &mut oi[start..end], &mut ov[start..end]);
         return end;
     }
-    walk(nrows, start, ai, av, bi, bv, oi, ov)
+    walk(start, ai, av, bi, bv, oi, ov)
 }

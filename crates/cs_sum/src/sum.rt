@@ -30,12 +30,12 @@ fn count(a: Matrix<'_>, b: Matrix<'_>) -> usize
         let b = matrix_of b.entry in
         result ≡ length (joined (λ j. chosen a.pattern.nrows (row_of a b j)) a.pattern.ncols) }
 {
-    let Pattern { nrows, ncols, .. } = a.pattern;
+    let ncols = a.pattern.ncols;
     let mut places = 0;
     for j in 0..ncols {
         let (ai, _) = column(a, j);
         let (bi, _) = column(b, j);
-        places += count_rows(nrows, ai, bi);
+        places += count_rows(ai, bi);
     }
     places
 }
@@ -71,13 +71,13 @@ fn fill(a: Matrix<'_>, b: Matrix<'_>, op: &mut [u32], oi: &mut [u32], ov: &mut [
     ensures { stored op.new oi.new ov.new
         ≡ written (sum_of (matrix_of a.entry) (matrix_of b.entry)) (stored op.old oi.old ov.old) }
 {
-    let Pattern { nrows, ncols, .. } = a.pattern;
+    let ncols = a.pattern.ncols;
     let mut at = 0;
     for j in 0..ncols {
         op[j] = at as u32;
         let (ai, av) = column(a, j);
         let (bi, bv) = column(b, j);
-        at = merge(nrows, at, ai, av, bi, bv, oi, ov);
+        at = merge(at, ai, av, bi, bv, oi, ov);
     }
     op[ncols] = at as u32;
 }
