@@ -16,6 +16,7 @@ use Rattle.lists.proofs.Chosen.{chosen_alike, chosen_rising, keep-chosen}
 use Rattle.lists.proofs.Laying.{part-front, part-onto, placed-front}
 use Rattle.lists.proofs.Ordering.{rising_once}
 use Rattle.lists.proofs.Parts.{length-placed}
+use Rattle.lists.proofs.Skipping.{chosen-rest, lists_nowhere}
 use Rattle.cs_matrix.specs.Matrix.{Matrix}
 use Rattle.cs_columns.specs.Columns.{laid}
 use Rattle.cs_product.specs.Product.{add_column, remains}
@@ -68,12 +69,21 @@ module _ {n stamp : ℕ} {mark met : List ℕ} {x : List Float} {many : ℕ} (m 
   next_fresh e f = record { small = m.small; mark_long = m.mark_long; met_long = e; unmarked = λ r h. omega (arith, m.most r h); zeros = f }
 
   -- ---- sorted
-  pub loose : {spare : List ℕ} → length spare ≡ n → Loose n (part 0 many met) spare
-  loose e = rw (part-front many met) (record { small = m.small; once = m.once; below = rows_below; room = omega (arith, rows_long, m.within) })
+  pub loose : {spare : List ℕ} → length spare ≡ n → Loose 65535 (part 0 many met) spare
+  loose e = rw (part-front many met) (record {
+    small = omega arith;
+    once = m.once;
+    below = λ k h. omega (arith, m.small, rows_below k h);
+    room = omega (arith, rows_long, m.within);
+  })
 
-  module _ {y met' : List ℕ} (e : y ≡ in_order n (part 0 many met)) (f : met' ≡ placed 0 many met y) where
+  fewer : in_order 65535 rows ≡ in_order n rows
+  unfolding in_order
+  fewer = chosen-rest (λ r. lists r rows) n 65535 m.small (λ r h k. lists_nowhere r rows (λ q l e. absurd (omega (arith, rows_below q l))))
+
+  module _ {y met' : List ℕ} (e : y ≡ in_order 65535 (part 0 many met)) (f : met' ≡ placed 0 many met y) where
     y_is : y ≡ in_order n rows
-    y_is = e ∙ ap (in_order n) (part-front many met)
+    y_is = e ∙ ap (in_order 65535) (part-front many met) ∙ fewer
 
     y_long : length y ≡ many
     y_long = rw y_is (order_long n rows m.once rows_below ∙ rows_long)
@@ -133,7 +143,7 @@ module _ {a : Matrix} {stamp : ℕ} {rows : List ℕ} {vals : List Float} {mark 
   column-counted f g = (f ∙ count_is m ∙ ap (λ (w : List Float). length (chosen a.pattern.nrows (remains w))) x_is, next_fresh m m.met_long (g ∙ zeros))
 
   module _ {start : ℕ} {spare oi : List ℕ} {ov : List Float} (c : Column a stamp rows vals start mark met spare x oi ov) {y met₂ : List ℕ}
-      (f : y ≡ in_order a.pattern.nrows (part 0 many met')) (g : met₂ ≡ placed 0 many met' y) where
+      (f : y ≡ in_order 65535 (part 0 many met')) (g : met₂ ≡ placed 0 many met' y) where
     pub column_taking : Taking (length x') start (part 0 many met₂) x' oi ov
     column_taking = rw m.x_long (taking m f g (rw x_is c.few) (rw x_is c.in_i) (rw x_is c.in_v))
 

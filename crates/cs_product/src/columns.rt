@@ -56,7 +56,7 @@ fn write_listed(
         Fresh a.entry.pattern.nrows (stamp + 1) mark.new met.new x.new }
 {
     let many = accumulate(a, stamp, rows, vals, mark, met, x);
-    sort(a.pattern.nrows, &mut met[0..many], spare);
+    sort(&mut met[0..many], spare);
     gather(start, &met[0..many], x, oi, ov)
 }
 
