@@ -41,8 +41,8 @@ module _ {F : Type 0} (g : Mut F (Bor ℕ × Unit {0}) Bool) (f : F) (test : ℕ
       each e h zero l = ap (λ (m : List ℕ). test (get_or m 0 0)) y.1 ∙ sym e
       each e h (suc i) l = ap (λ (m : List ℕ). test (get_or m (suc i) 0)) y.1 ∙ h i (omega arith)
 
-  module _ {s u : Iter ℕ} {r : Bool} (d : (xs : List (Bor ℕ)) × (o : Option (Bor ℕ)) × (j : F) × YieldsThen iter_steps s xs o u × FoldsTo Passes f xs j
-      × MatchOption o (r ≡ false) (λ x. (r ≡ true) × ((h : F) × Called g j (x, tt) true h))) where
+  module _ {s u : Iter ℕ} {r : Bool} (d : (xs : List (Bor ℕ)) × (o : Option (Bor ℕ)) × (j : F) × YieldsThen iter_steps s xs o u
+      × FoldsTo Passes f xs j × MatchOption o (r ≡ false) (λ x. (r ≡ true) × ((h : F) × Called g j (x, tt) true h))) where
     w : (iter_rest d.3.0 ≡ drop (length d.0) (iter_rest s)) × (length d.0 ≤ length (iter_rest s)) × (d.2 ≡ f) ×
         ((i : ℕ) → i < length d.0 → test (get_or (iter_rest s) i 0) ≡ false)
     w = walked d.0 s d.3.0 d.2 d.3.1 d.4

@@ -27,9 +27,10 @@ loop-row-init c = (
 pub returns-then-not-any : goal.returns-then-not-any
 returns-then-not-any c =
     let row = get_or c.args.rows.now c.loop-row.row-index 0 in
-    straying_absent c.loop-row.invariant.2 c.loop-row-test.true c.wide.ensures.0 c.if-wide-k.true (λ b a l g.
-    left_none c.args.held.now c.loop-row.invariant.0 {row = row} c.loop-row.invariant.1 (none-passes _ _ (λ h. eqb h row) (λ x b q k. search (rules, tests)) c.any.ensures.ran c.if-not-any.true)
-    b a l (g ∙ c.wide.ensures.0))
+    let i = c.loop-row.invariant in
+    let n = none-passes _ _ (λ h. eqb h row) (λ x b q k. search (rules, tests)) c.any.ensures.ran c.if-not-any.true in
+    straying_absent i.2 c.loop-row-test.true c.wide.ensures.0 c.if-wide-k.true
+    (λ b a l g. left_none c.args.held.now i.0 {row = row} i.1 n b a l (g ∙ c.wide.ensures.0))
 
 pub loop-row-preserved : goal.loop-row-preserved
 loop-row-preserved c =
