@@ -15,7 +15,6 @@ use Rattle.lists.proofs.Bools.{not_holds, passed_over}
 use Rattle.lists.proofs.Calls.{first, then, early, kept, left_alone, left-written, wiped_each, not_narrow}
 use Rattle.lists.proofs.Clearing.{length-cleared, cleared-front, cleared-again}
 use Rattle.lists.proofs.Laying.{part_long}
-use Rattle.lists.proofs.Parts.{length_part}
 use Rattle.lists.proofs.Returning.{front-zeros, cleared-after}
 use Rattle.lists.proofs.Tables.{length-table}
 use Rattle.cs_matrix.specs.Matrix.{Matrix, Stored, stored, short, written, Valid}

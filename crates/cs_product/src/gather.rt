@@ -26,13 +26,7 @@ pub fn count_remaining(rows: &[u32], x: &mut [f64]) -> usize
 }
 
 // Those that remain with their values, written from `start` on. The answer is the place behind them.
-pub fn gather(
-    start: usize,
-    rows: &[u32],
-    x: &mut [f64],
-    oi: &mut [u32],
-    ov: &mut [f64],
-) -> usize
+pub fn gather(start: usize, rows: &[u32], x: &mut [f64], oi: &mut [u32], ov: &mut [f64]) -> usize
     requires { Taking (length x.old) start rows.now x.old oi.old ov.old }
     ensures { let w = x.old in let l = keep (remains w) rows.now in
         (result ≡ start + length l) × (oi.new ≡ laid start oi.old l) × (ov.new ≡ laid start ov.old (map (λ j. get_or w j nan) l)) ×
