@@ -13,7 +13,10 @@ use Rattle.lists.specs.Parts.{part}
 use Rattle.lists.proofs.Bools.{and-true, or-false, not_holds, passed_over}
 use Rattle.lists.proofs.Calls.{Wide, not_narrow}
 use Rattle.lists.proofs.Passing.{lowest-none}
+use Rattle.lists.specs.Order.{starts_with}
+use Rattle.lists.proofs.Matching.{begins, starts_long, starts-at}
 use Rattle.cs_matrix.specs.Matrix.{pattern, Matrix, matrix, needed, Valid, judged_square_matrix}
+use Rattle.cs_matrix.proofs.Squaring.{early_matrix, valid_matrix}
 use Rattle.cs_tree.specs.Pattern.{Analysis, analysis, analysed, upper, lower, starts, entries}
 use Rattle.cs_tree.specs.Tree.{tree, root}
 use Rattle.cs_tree.proofs.Count.{length-starts}
@@ -22,13 +25,10 @@ use Rattle.cs_tree.proofs.Lower.{length-upper}
 use Rattle.cs_tree.proofs.Promises.{promised, length-lower}
 use Rattle.cs_tree.proofs.Reread.{reread}
 use Rattle.cs_pattern.specs.Columns.{columns}
-use Rattle.lists.specs.Order.{starts_with}
 use Rattle.cs_pattern.specs.Compare.{same, tight}
 use Rattle.cs_pattern.proofs.Columns.{columns_fit, columns_long}
-use Rattle.lists.proofs.Matching.{begins, starts_long, starts-at}
 use Rattle.cs_cholesky.specs.Factor.{judged_factor}
 use Rattle.cs_cholesky.specs.Served.{Laid, Served}
-use Rattle.cs_matrix.proofs.Squaring.{early_matrix, valid_matrix}
 
 -- ---- columns that a lent slice starts with
 -- a slice that starts with a list is that list, laid over the slice itself

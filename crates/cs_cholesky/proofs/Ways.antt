@@ -13,10 +13,10 @@ use borrow.Author.Tests.{ne_eqb}
 use Rattle.lists.specs.Calls.{lowest, none, Scratch, wiped, lent, worked, leaves}
 use Rattle.lists.proofs.Calls.{Under, under_both, lowest_under, first, then_under, left_alone, late, done, blanked}
 use Rattle.cs_matrix.specs.Matrix.{Matrix, needed, judged_square_matrix}
+use Rattle.cs_matrix.proofs.Squaring.{early_matrix}
 use Rattle.cs_tree.specs.Pattern.{Analysis}
 use Rattle.cs_cholesky.specs.declared.Factored.{Factored}
 use Rattle.cs_cholesky.specs.Factor.{Outcome, factored, judged_factor, answer, written}
-use Rattle.cs_matrix.proofs.Squaring.{early_matrix}
 
 low_factor : (a : Matrix) (given : Analysis) (room : ℕ) (work : Scratch) → Under 9 (judged_factor a given room work)
 unfolding judged_factor

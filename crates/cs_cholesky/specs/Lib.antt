@@ -1,2 +1,3 @@
 pub mod Factor
 pub mod Served
+pub mod Lent

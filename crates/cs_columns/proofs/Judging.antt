@@ -1,14 +1,15 @@
 -- Two operands judged together, and number 7 of a result that is written column by column. Assumes nothing.
 use mathlib.Core.Path.{◌≡◌, refl, sym, ◌∙◌}
 use mathlib.Core.Bool.{Bool, true, false, ◌||◌}
+use mathlib.Core.List.{[], ◌∷◌}
 use Prim.Native.Nat.{ℕ, ◌+◌, ◌≤◌, ◌<◌}
 use native.Mathlib.Omega.{arith}
 use lib.Dec.{ltb}
 use lib.ListN.{length}
-use borrow.Author.Tests.{lt-ltb, le-ltb, ltb-false}
+use borrow.Author.Tests.{le-ltb, ltb-false}
 use Rattle.lists.specs.Calls.{lowest, both, disagree, lower}
 use Rattle.lists.proofs.Bools.{passed_over, or-false}
-use Rattle.lists.proofs.Calls.{Early, From, lowest-both, lower_alone, lower-none}
+use Rattle.lists.proofs.Calls.{Early, From, lowest-both, lowest_under, lower_alone, lower-none}
 use Rattle.cs_matrix.specs.Matrix.{Matrix, Stored, judged_pattern, judged, short, short_by, Valid}
 use Rattle.cs_matrix.proofs.Refusing.{from-judged, from-disagree}
 use Rattle.cs_matrix.proofs.Rooms.{room}
@@ -58,15 +59,10 @@ passed a b differ e h =
     record { first = valid a u.0; second = valid b u.1; agree = (passed_over differ 1 0 t.1).0 }
 
 -- ---- 7
+pub alone_7 : (b : Bool) → lowest ((7, b) ∷ []) < 8
+alone_7 b = lowest_under 8 ((7, b) ∷ []) (omega arith) (omega arith, omega arith, omega arith)
+
 module _ (n k p i v : ℕ) where
-  pub over-short : 4194304 < k → true ≡ short_for n k p i v
-  unfolding short_for
-  over-short h = rw (lt-ltb 4194304 k h)
-
-  pub rest-short : k ≤ 4194304 → {t : Bool} → t ≡ short_by n k p i v → t ≡ short_for n k p i v
-  unfolding short_for
-  rest-short h e = rw (le-ltb 4194304 k h) e
-
   pub record Roomy : Type 0 where
     pub few : k ≤ 4194304
     pub in_p : n + 1 ≤ p

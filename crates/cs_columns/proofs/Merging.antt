@@ -98,9 +98,6 @@ end = 4294967295
 pub row_there : (l : List ℕ) (k : ℕ) → k < length l → get_or l k 0 ≡ get_or l k end
 row_there l k h = get_d_any l k 0 end h
 
-pub row-gone : (l : List ℕ) (k : ℕ) → length l ≤ k → end ≡ get_or l k end
-row-gone l k h = sym (get_or-eq_default l end h)
-
 module _ (l : List ℕ) (k n : ℕ) (small : n ≤ 65535) (below : (q : ℕ) → q < length l → get_or l q 0 < n) where
   there : k < length l → get_or l k end ≡ get_or l k 0
   there h = get_d_any l k end 0 h

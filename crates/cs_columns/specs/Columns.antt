@@ -4,7 +4,7 @@ use Rattle.lists.specs.Calls.{both, disagree, onto}
 use Rattle.lists.specs.Choices.{chosen}
 use Rattle.lists.specs.Order.{lists}
 use Rattle.lists.specs.Tables.{table}
-use Rattle.cs_matrix.specs.Matrix.{Matrix, matrix, judged, short_by, Valid}
+use Rattle.cs_matrix.specs.Matrix.{Matrix, matrix, judged, short_by}
 
 module _ {A : Type 0} where
   -- the items of the columns below n, one column behind another
@@ -35,8 +35,3 @@ short_for ncols entries p i v = ltb 4194304 entries || short_by ncols entries p 
 -- what l holds once ys is written to it from place a on
 unfoldable pub laid : {A : Type 0} → ℕ → List A → List A → List A
 laid a l ys = onto l (take a l ++ ys)
-
--- two valid matrices
-pub record Operands (a b : Matrix) : Type 0 where
-  pub first : Valid a
-  pub second : Valid b

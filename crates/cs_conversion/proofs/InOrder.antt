@@ -32,21 +32,12 @@ pub record Watching (rows cols : List ℕ) (bad k : ℕ) : Type 0 where
   pub first : 1 ≤ k
   pub up : bad ≡ 0 → (a b : ℕ) → a < b → b < k → code rows cols a < code rows cols b
 
-pub watching_start : {rows cols : List ℕ} → Coded rows cols → Watching rows cols 0 1
-watching_start a = record { ask = a; first = omega arith; up = λ z a b h l. absurd (omega arith) }
-
 module _ {rows cols : List ℕ} {bad k : ℕ} (v : Watching rows cols bad k) (h : k < length rows) where
   pub in_cols : k < length cols
   in_cols = omega (arith, v.ask.alike)
 
   small : (q : ℕ) → q ≤ k → (get_or rows q 0 < 65536) × (get_or cols q 0 < 65536)
   small q l = (v.ask.rows_below q (omega arith), v.ask.cols_below q (omega (arith, in_cols)))
-
-  pub last_small : (get_or rows (k - 1) 0 < 65536) × (get_or cols (k - 1) 0 < 65536)
-  last_small = small (k - 1) (omega arith)
-
-  pub here_small : (get_or rows k 0 < 65536) × (get_or cols k 0 < 65536)
-  here_small = small k (omega arith)
 
   pub watching_falls : Watching rows cols 1 (k + 1)
   watching_falls = record { ask = v.ask; first = omega arith; up = λ z. absurd (omega arith) }
@@ -110,14 +101,6 @@ once (r ∷ rs) (c ∷ cs) o =
 
 -- ---- the matrix
 module _ {t : Triplets} (s : Sound t) where
-  pub coded : Coded t.i t.j
-  coded =
-      record {
-        alike = sym s.j_long;
-        rows_below = λ k h. omega (arith, s.i_below k h, s.rows);
-        cols_below = λ k h. omega (arith, s.j_below k h, s.cols);
-      }
-
   pub placed : Placed (t.ncols + 1) t.j
   placed = record { few = omega (arith, s.count, s.j_long); named = λ k h. omega (arith, s.j_below k h) }
 

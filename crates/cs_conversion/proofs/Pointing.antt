@@ -1,98 +1,30 @@
 -- The loops of `mark_ends` and of `raise`, and the pointers that they leave where the columns never fall. Assumes nothing.
-use mathlib.Core.Path.{◌≡◌, refl, sym, ap, ◌∙◌}
+use mathlib.Core.Path.{◌≡◌, sym, ap, ◌∙◌}
 use mathlib.Core.List.{List, [], ◌++◌}
 use mathlib.Core.Logic.{⊎_elim}
-use Prim.Native.Nat.{ℕ, zero, suc, ◌+◌, ◌-◌, ◌≤◌, ◌<◌, ◌^◌, max}
+use Prim.Native.Nat.{ℕ, zero, suc, ◌+◌, ◌-◌, ◌≤◌, ◌<◌, max}
 use native.Mathlib.Nat.{eq-or-lt_of_le}
 use native.Mathlib.Numerals.{add-one}
 use native.Mathlib.Omega.{arith}
-use lib.ListN.{length, get_or, set, take, drop, length-set, get_or-eq_default, get_or-append}
-use lib.Seq.{get_or-set_same, get_or-set_other}
+use lib.ListN.{length, get_or, take, drop, get_or-append}
 use Rattle.lists.specs.Calls.{onto, cleared}
 use Rattle.lists.specs.Keys.{of_key, by_key}
 use Rattle.lists.specs.Tables.{table}
-use Rattle.lists.proofs.Bools.{eq-or-ne, le-or-lt}
+use Rattle.lists.proofs.Bools.{eq-or-ne}
 use Rattle.lists.proofs.Keys.{start-more}
 use Rattle.lists.proofs.Ordered.{first_below}
 use Rattle.lists.proofs.Parts.{front}
 use Rattle.lists.proofs.Sorting.{key-none}
 use Rattle.lists.proofs.Tables.{length-table, is-table}
-use Rattle.lists.specs.Keeping.{Zeros}
 use Rattle.cs_conversion.specs.InOrder.{Climbing, Placed, Ends, highest, Raised}
 use Rattle.cs_conversion.proofs.Columns.{cleared_long, kept-once}
 
--- ---- mark_ends
+-- ---- mark_ends, after k triplets
 pub record Ending (cols p₀ p : List ℕ) (k : ℕ) : Type 0 where
   pub ask : Placed (length p₀) cols
   pub long : length p ≡ length p₀
   pub within : k ≤ length cols
   pub ends : Ends k cols p
-
-pub ending_start : {cols p : List ℕ} → Placed (length p) cols → Zeros p → Ending cols p p 0
-ending_start {p = p} a z =
-    record {
-      ask = a;
-      long = refl;
-      within = omega arith;
-      ends = record { first = blank 0; some = λ c h. absurd (omega (arith, blank (c + 1))); last = λ q h. absurd (omega arith) };
-    }
-  where
-    blank : (c : ℕ) → get_or p c 0 ≡ 0
-    blank c = ⊎_elim (λ (m : length p ≤ c). get_or-eq_default p 0 m) (λ (m : c < length p). z.at c m) (le-or-lt (length p) c)
-
-module _ {cols p₀ p : List ℕ} {k : ℕ} (v : Ending cols p₀ p k) (h : k < length cols) where
-  abbrev C : ℕ
-  C = get_or cols k 0
-
-  pub c_in : C + 1 < length p
-  c_in = omega (arith, v.ask.named k h, v.long)
-
-  pub k_fits : k + 1 < 2 ^ 32
-  k_fits = omega (arith, v.ask.few)
-
-  here : get_or (set p (C + 1) (k + 1)) (C + 1) 0 ≡ k + 1
-  here = get_or-set_same p (C + 1) (k + 1) 0 c_in
-
-  there : (c : ℕ) → (c ≡ C + 1 → ⊥) → get_or (set p (C + 1) (k + 1)) c 0 ≡ get_or p c 0
-  there c n = get_or-set_other p (C + 1) c (k + 1) 0 n
-
-  pub ending_turn : Ending cols p₀ (set p (C + 1) (k + 1)) (k + 1)
-  ending_turn =
-      record {
-        ask = v.ask;
-        long = length-set p (C + 1) (k + 1) ∙ v.long;
-        within = omega arith;
-        ends =
-            record {
-              first = there 0 (λ e. omega arith) ∙ v.ends.first;
-              some =
-                  λ c l.
-                  ⊎_elim
-                  (λ (e : c ≡ C). rw (e, here) (omega arith, same))
-                  (λ (n : c ≡ C → ⊥).
-                  let t = there (c + 1) (λ e. n (omega arith)) in
-                  let s = v.ends.some c (omega (arith, t)) in
-                  rw t (omega (arith, s.0), s.1))
-                  (eq-or-ne c C);
-              last =
-                  λ q l.
-                  ⊎_elim
-                  (λ (e : get_or cols q 0 ≡ C). rw (e, here) l)
-                  (λ (n : get_or cols q 0 ≡ C → ⊥).
-                  let t = there (get_or cols q 0 + 1) (λ e. n (omega arith)) in
-                  rw t (v.ends.last q (omega (arith, before q l n))))
-                  (eq-or-ne (get_or cols q 0) C);
-            };
-      }
-    where
-      same : get_or cols (k + 1 - 1) 0 ≡ C
-      same = let e : k + 1 - 1 ≡ k = omega arith in rw e
-
-      before : (q : ℕ) → q < k + 1 → (get_or cols q 0 ≡ C → ⊥) → q < k
-      before q l n = ⊎_elim (λ (e : q ≡ k). absurd (n (ap (λ (x : ℕ). get_or cols x 0) e))) (λ (o : q < k). o) (eq-or-lt_of_le (omega arith))
-
-pub ending_done : {cols p₀ p : List ℕ} {k : ℕ} → Ending cols p₀ p k → length cols ≤ k → Ends (length cols) cols p
-ending_done {cols = cols} {k = k} v h = let e : k ≡ length cols = omega (arith, v.within) in rw e at v.ends
 
 -- ---- raise
 pub record Raising (p₀ p : List ℕ) (high k : ℕ) : Type 0 where
@@ -101,37 +33,6 @@ pub record Raising (p₀ p : List ℕ) (high k : ℕ) : Type 0 where
   pub done : (q : ℕ) → q < k → get_or p q 0 ≡ highest p₀ (suc q)
   pub rest : (q : ℕ) → k ≤ q → get_or p q 0 ≡ get_or p₀ q 0
   pub top : high ≡ highest p₀ k
-
-pub raising_start : (p : List ℕ) → Raising p p 0 0
-unfolding highest
-raising_start p = record { long = refl; within = omega arith; done = λ q h. absurd (omega arith); rest = λ q h. refl; top = refl }
-
-module _ {p₀ p : List ℕ} {high k : ℕ} (v : Raising p₀ p high k) (h : k < length p) where
-  next : (x : ℕ) → x ≡ max high (get_or p k 0) → Raising p₀ (set p k x) x (k + 1)
-  unfolding highest
-  next x e =
-      let t : x ≡ highest p₀ (suc k) = omega (arith, e, v.top, v.rest k (omega arith)) in
-      record {
-        long = length-set p k x ∙ v.long;
-        within = omega (arith, v.long);
-        done =
-            λ q l.
-            ⊎_elim
-            (λ (f : q ≡ k). rw f (get_or-set_same p k x 0 h ∙ t))
-            (λ (f : q < k). get_or-set_other p k q x 0 (λ e. omega arith) ∙ v.done q f)
-            (eq-or-lt_of_le (omega arith));
-        rest = λ q l. get_or-set_other p k q x 0 (λ e. omega arith) ∙ v.rest q (omega arith);
-        top = rw (add-one k) t;
-      }
-
-  pub raising_higher : high < get_or p k 0 → Raising p₀ (set p k (get_or p k 0)) (get_or p k 0) (k + 1)
-  raising_higher g = next (get_or p k 0) (omega arith)
-
-  pub raising_same : get_or p k 0 ≤ high → Raising p₀ (set p k high) high (k + 1)
-  raising_same g = next high (omega arith)
-
-pub raising_done : {p₀ p : List ℕ} {high k : ℕ} → Raising p₀ p high k → length p ≤ k → Raised p₀ p
-raising_done v h = record { long = v.long; high = λ q l. v.done q (omega (arith, v.long)) }
 
 -- ---- where each column starts
 module _ {cols p : List ℕ} (o : Climbing cols) (e : Ends (length cols) cols p) where

@@ -2,47 +2,37 @@
 // as the matrix has them, and only the pointers have to be found.
 ghost use Rattle.std.specs.Prelude.{◌≡◌, true};
 ghost use Rattle.cs_matrix.specs.Matrix.{stored, written};
-ghost use Rattle.cs_conversion.specs.Assembly.{triplets};
+ghost use Rattle.cs_conversion.specs.Lent.{triplets_of};
 ghost use Rattle.cs_conversion.specs.Sorting.{Sound, Room};
 ghost use Rattle.cs_conversion.specs.InOrder.{Coded, Ordered, as_given};
 
+use crate::assembly::Triplets;
 use crate::pointers::pointers;
-use lists::sides::{copy, copy_values};
+use lists::sides::copy;
 
-// True only where the triplets come in order. Column and row are compared as one number; there is no early exit, so that
-// several are compared at a time.
+// True only where the triplets come in order. Column and row are compared as one number; there is no early exit and `bad` is as wide
+// as what is compared, so that several are compared at a time.
 pub fn in_order(rows: &[u32], cols: &[u32]) -> bool
     requires { Coded rows.now cols.now }
     ensures { result ≡ true → Ordered rows.now cols.now }
 {
     let mut bad: u32 = 0;
-    let mut k = 1;
-    while k < rows.len() {
+    for k in 1..rows.len() {
         let last = cols[k - 1] * 65536 + rows[k - 1];
         if cols[k] * 65536 + rows[k] <= last {
             bad = 1;
         }
-        k += 1;
     }
     bad == 0
 }
 
 // Pointers into p, and rows and values as they are given into i and v.
-pub fn as_given(
-    nrows: usize,
-    ncols: usize,
-    irows: &[u32],
-    icols: &[u32],
-    vals: &[f64],
-    p: &mut [u32],
-    i: &mut [u32],
-    v: &mut [f64],
-)
-    requires { let t = triplets nrows ncols irows.now icols.now vals.now in Sound t × Ordered t.i t.j × Room t (stored p.old i.old v.old) }
-    ensures { let t = triplets nrows ncols irows.now icols.now vals.now in
+pub fn as_given(t: Triplets<'_>, p: &mut [u32], i: &mut [u32], v: &mut [f64])
+    requires { let t = triplets_of t in Sound t × Ordered t.i t.j × Room t (stored p.old i.old v.old) }
+    ensures { let t = triplets_of t.entry in
         stored p.new i.new v.new ≡ written (as_given t) (stored p.old i.old v.old) }
 {
-    pointers(ncols, icols, p);
-    copy(irows, i);
-    copy_values(vals, v);
+    pointers(t.ncols, t.icols, p);
+    copy(t.irows, i);
+    copy(t.vals, v);
 }

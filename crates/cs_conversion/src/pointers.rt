@@ -7,7 +7,7 @@ ghost use Rattle.lists.specs.Tables.{table};
 ghost use Rattle.lists.specs.Keeping.{Zeros};
 ghost use Rattle.cs_conversion.specs.InOrder.{Climbing, Placed, Ends, Raised};
 
-use lists::clear::clear;
+use lists::clear::fill;
 use lists::numbers::wide;
 
 // The place behind each column's last triplet, into p one place behind the column's own.
@@ -15,11 +15,8 @@ fn mark_ends(cols: &[u32], p: &mut [u32])
     requires { Placed (length p.old) cols.now × Zeros p.old }
     ensures { Ends (length cols.now) cols.now p.new }
 {
-    let mut k = 0;
-    while k < cols.len() {
-        let c = wide(cols[k]) + 1;
-        k += 1;
-        p[c] = k as u32;
+    for (k, &col) in cols.iter().enumerate() {
+        p[wide(col) + 1] = (k + 1) as u32;
     }
 }
 
@@ -27,15 +24,10 @@ fn mark_ends(cols: &[u32], p: &mut [u32])
 fn raise(p: &mut [u32])
     ensures { Raised p.old p.new }
 {
-    let mut high: u32 = 0;
-    let mut k = 0;
-    while k < p.len() {
-        let x = p[k];
-        if high < x {
-            high = x;
-        }
-        p[k] = high;
-        k += 1;
+    let mut high = 0;
+    for end in p.iter_mut() {
+        high = high.max(*end);
+        *end = high;
     }
 }
 
@@ -54,6 +46,6 @@ pub fn pointers(ncols: usize, cols: &[u32], p: &mut [u32])
     ensures { p.new ≡ onto p.old (table (ncols + 1) (λ c. length (by_key c cols.now cols.now))) }
 {
     let m = ncols + 1;
-    clear(m, p);
+    fill(0, m, p);
     starts(cols, &mut p[..m]);
 }

@@ -14,7 +14,7 @@ use Rattle.lists.proofs.Chosen.{map_more}
 use Rattle.lists.proofs.Entries.{Passing, passing_turn}
 use Rattle.lists.proofs.Folds.{Along, along-start, along-turn, along-end}
 use Rattle.lists.proofs.Laying.{onto-whole}
-use Rattle.lists.proofs.Parts.{onto-none, onto-more, length-onto}
+use Rattle.lists.proofs.Parts.{onto-none, onto-more}
 use Rattle.cs_left.specs.Left.{put_at, quotients}
 use Rattle.cs_left.specs.Steps.{zero_at, Places}
 
@@ -68,17 +68,7 @@ module _ {d : Float} {rows : List ℕ} {vals₀ x₀ vals x : List Float} {q : �
   front : q ≤ length rows → length (quotients d (take q rows) x₀) ≡ q
   front h = length-quotients d (take q rows) x₀ ∙ omega (arith, length-take q rows)
 
-  pub dividing_long : length vals ≡ length vals₀
-  dividing_long = ap length w.vals_are ∙ length-onto vals₀ (quotients d (take q rows) x₀)
-      (omega (arith, front w.is.within, w.is.within, w.asks.alike))
-
   module _ (h : q < length rows) {z : ℕ} (e : z ≡ get_or rows q 0) where
-    pub dividing_row : z < length x
-    dividing_row = omega (arith, w.asks.below q h, w.long)
-
-    pub dividing_value : q < length vals
-    dividing_value = omega (arith, dividing_long, w.asks.alike)
-
     pub dividing_turn : Dividing d rows vals₀ x₀ (set vals q (div binary64 (get_or x z nan) d)) (set x z none) (q + 1)
     unfolding zero_at
     dividing_turn =

@@ -14,7 +14,7 @@ use Rattle.lists.specs.Entries.{Entries, plus_at}
 use Rattle.lists.specs.Folds.{along, over}
 use Rattle.lists.specs.Order.{rises}
 use Rattle.lists.specs.Parts.{part}
-use Rattle.lists.proofs.Folds.{Along, along-start, along-turn, along-end}
+use Rattle.lists.proofs.Folds.{Along, along-turn, along-end}
 use Rattle.lists.proofs.Parts.{length_part, get_d_part}
 use Rattle.lists.proofs.Runs.{rises-drop}
 use Rattle.lists.proofs.Positions.{part-drop}
@@ -55,20 +55,11 @@ module _ {k : ℕ} {lp li : List ℕ} {lx : List Float} {next : List ℕ} {n j :
   vals_long = length_part (get_or lp j 0) (get_or lp (j + 1) 0) lx w.in_lx
 
   module _ {s e : ℕ} (a : s ≡ get_or next j 0) (b : e ≡ get_or lp (j + 1) 0) where
-    pub crossing_order : s ≤ e
-    crossing_order = omega (arith, w.inside)
-
     pub crossing_li : e ≤ length li
     crossing_li = omega (arith, w.in_li)
 
     pub crossing_lx : e ≤ length lx
     crossing_lx = omega (arith, w.in_lx)
-
-    pub crossing_place : s < length lx
-    crossing_place = omega (arith, w.in_lx, w.inside)
-
-    pub crossing_fits : s + 1 ≤ 4194304
-    crossing_fits = omega (arith, w.inside, w.few)
 
     crossing_entries : Entries n (part s e li) (part s e lx)
     crossing_entries =
@@ -126,18 +117,6 @@ pub record Adding (k : ℕ) (us lp li : List ℕ) (lx : List Float) (next₀ : L
     pub next_is : Along (advance k) us next₀ next q
     pub ahead : (r : ℕ) → q ≤ r → r < length us → get_or next (get_or us r 0) 0 ≡ get_or next₀ (get_or us r 0) 0
 
-pub adding_start : {k : ℕ} {us lp li : List ℕ} {lx : List Float} {next : List ℕ} {x : List Float} → Crossings k us lp li lx next (length x) →
-    Adding k us lp li lx next x next x 0
-adding_start {k} {us} {lp} {li} {lx} {next} {x} a =
-    record {
-      asks = a;
-      x_long = refl;
-      next_long = refl;
-      x_is = along-start (add_step k lp li lx) us x;
-      next_is = along-start (advance k) us next;
-      ahead = λ r h g. refl;
-    }
-
 module _ {k : ℕ} {us lp li : List ℕ} {lx : List Float} {next₀ : List ℕ} {x₀ : List Float} {next : List ℕ} {x : List Float} {q : ℕ}
     (w : Adding k us lp li lx next₀ x₀ next x q) where
   module _ (h : q < length us) {j : ℕ} (e : j ≡ get_or us q 0) where
@@ -162,7 +141,7 @@ module _ {k : ℕ} {us lp li : List ℕ} {lx : List Float} {next₀ : List ℕ} 
 
       pub adding_turn : {s t : ℕ} {y : List Float} → s ≡ get_or next j 0 → t ≡ get_or lp (j + 1) 0 → length y ≡ length x →
           y ≡ over (plus_at (neg (get_or lx s nan))) (part s t li) (part s t lx) x
-          → Adding k us lp li lx next₀ x₀ (set next j (s + 1)) y (q + 1)
+          → Adding k us lp li lx next₀ x₀ (set next j (get_or next j 0 + 1)) y (q + 1)
       unfolding advance add_step
       adding_turn {s} {t} a b l y =
           record {
@@ -170,8 +149,8 @@ module _ {k : ℕ} {us lp li : List ℕ} {lx : List Float} {next₀ : List ℕ} 
             x_long = l ∙ w.x_long;
             next_long = length-set next j _ ∙ w.next_long;
             x_is = along-turn (add_step k lp li lx) us 0 w.x_is h (y ∙ crossing_adds adding_here a b x ∙ (rw (← e, lt-ltb j k g)));
-            next_is = along-turn (advance k) us 0 w.next_is h (rw (← e, lt-ltb j k g, a));
-            ahead = λ r i m. get_or-set_other next j (get_or us r 0) (s + 1) 0 (λ z. w.asks.once q r (omega arith) m (sym e ∙ sym z)) ∙
+            next_is = along-turn (advance k) us 0 w.next_is h (rw (← e, lt-ltb j k g));
+            ahead = λ r i m. get_or-set_other next j (get_or us r 0) (get_or next j 0 + 1) 0 (λ z. w.asks.once q r (omega arith) m (sym e ∙ sym z)) ∙
                 w.ahead r (omega arith) m;
           }
 

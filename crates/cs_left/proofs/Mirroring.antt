@@ -2,18 +2,18 @@
 use mathlib.Core.Path.{◌≡◌, refl, sym, ap, ◌∙◌}
 use mathlib.Core.Bool.{Bool, true, false, cond, ◌&&◌}
 use mathlib.Core.List.{List, Memᴰ}
-use mathlib.Core.Logic.{inl, inr, ⊎_elim}
+use mathlib.Core.Logic.{inr, ⊎_elim}
 use Prim.Native.Nat.{ℕ, ◌+◌, ◌-◌, ◌≤◌, ◌<◌}
 use native.Mathlib.Omega.{arith}
 use lib.Dec.{ltb, eqb}
-use lib.ListN.{length, get_or, set, length-set}
+use lib.ListN.{length, get_or, set}
 use lib.Seq.{get_or-set_same, get_or-set_other}
 use borrow.Author.Tests.{lt-ltb, le-ltb, eq-eqb, ne_eqb, eqb-true}
 use Rattle.lists.proofs.Bools.{le-or-lt, eq-or-ne, and-false}
 use Rattle.lists.proofs.Spots.{member_at}
 use Rattle.cs_matrix.specs.Matrix.{column}
 use Rattle.cs_matrix.proofs.Pointers.{length-column, get_or-column}
-use Rattle.cs_left.specs.Steps.{Within, Rises, Met, Mirrors, Meets, Walked, meet_at}
+use Rattle.cs_left.specs.Steps.{Within, Rises, Met, Mirrors, Meets, meet_at}
 
 -- ---- `meet`
 module _ (c r : ℕ) (p i next : List ℕ) {s e : ℕ} (f : s ≡ get_or next r 0) (g : e ≡ get_or p (r + 1) 0) where
@@ -26,7 +26,7 @@ module _ (c r : ℕ) (p i next : List ℕ) {s e : ℕ} (f : s ≡ get_or next r 
     unfolding meet_at
     meet_other n = rw (← f, ← g, ← d, ne_eqb z c n, and-false (ltb s e))
 
-    pub meet_is : z ≡ c → set next r (s + 1) ≡ meet_at c p i r next
+    pub meet_is : z ≡ c → set next r (get_or next r 0 + 1) ≡ meet_at c p i r next
     unfolding meet_at
     meet_is n = rw (← f, ← g, ← d, lt-ltb s e h, eq-eqb z c n)
 
@@ -57,16 +57,6 @@ mirrors_met {c} {r} {p} {i} next m l w = record {
     go false b e k y f g h = w.met k y f g h
 
 -- column c walked
-pub walked_next : {c : ℕ} {p i next : List ℕ} {q : ℕ} → Walked c p i next q → c < length next → Mirrors (c + 1) p i (set next c q)
-walked_next {c} {p} {i} {next} {q} w l = record {
-  met =
-      λ r y a b d. ⊎_elim (λ (e : r ≡ c). same r y e b d)
-      (λ (e : r ≡ c → ⊥). w.mirrors.met r y (omega arith) b (rw (get_or-set_other next c r q 0 e) at d)) (eq-or-ne r c);
-}
-  where
-    same : (r y : ℕ) → r ≡ c → get_or p r 0 ≤ y → y < get_or (set next c q) r 0 → Met p i r (get_or i y 0)
-    same r y e b d = inl (rw e (w.above y (rw e at b) (rw (e, get_or-set_same next c q 0 l) at d)))
-
 -- ---- `meet_rows`
 pub record Walking (c : ℕ) (p i next₀ next : List ℕ) (q : ℕ) : Type 0 where
   pub asks : Meets c p i next₀
@@ -76,25 +66,8 @@ pub record Walking (c : ℕ) (p i next₀ next : List ℕ) (q : ℕ) : Type 0 wh
   pub high : q ≤ get_or p (c + 1) 0
   pub above : (y : ℕ) → get_or p c 0 ≤ y → y < q → get_or i y 0 ≤ c
 
-pub walking_start : {c : ℕ} {p i next : List ℕ} {q : ℕ} → Meets c p i next → q ≡ get_or p c 0 → Walking c p i next next q
-walking_start {c} a e =
-    record {
-      asks = a;
-      long = refl;
-      mirrors = a.mirrors;
-      low = omega arith;
-      high = omega (arith, (a.rises.each c a.here).order);
-      above = λ y h g. absurd (omega arith);
-    }
-
 module _ {c : ℕ} {p i next₀ next : List ℕ} {q : ℕ} (w : Walking c p i next₀ next q) where
-  pub walking_done : Walked c p i next q
-  walking_done = record { mirrors = w.mirrors; above = w.above }
-
-  module _ {m : ℕ} (k : m ≡ get_or p (c + 1) 0) (h : q < m) where
-    pub walking_in : q < length i
-    walking_in = omega (arith, (w.asks.rises.each c w.asks.here).inside)
-
+  module _ (h : q < get_or p (c + 1) 0) where
     module _ {r : ℕ} (e : r ≡ get_or i q 0) (g : r ≤ c) where
       pub walking_meets : Within r p i × (r < length next)
       walking_meets = (w.asks.rises.each r (omega (arith, w.asks.here)), omega (arith, w.asks.here, w.asks.room, w.long))
@@ -124,26 +97,3 @@ pub record Crossed (n : ℕ) (p i next₀ next : List ℕ) (c : ℕ) : Type 0 wh
   pub long : length next ≡ length next₀
   pub within : c ≤ n
   pub mirrors : Mirrors c p i next
-
-pub crossed_start : {n : ℕ} {p i next : List ℕ} → Rises n p i × (length next ≡ n) → Crossed n p i next next 0
-crossed_start a = record { rises = a.0; room = a.1; long = refl; within = omega arith; mirrors = record { met = λ r y h. absurd (omega arith) } }
-
-module _ {n : ℕ} {p i next₀ next : List ℕ} {c : ℕ} (w : Crossed n p i next₀ next c) where
-  pub crossed_asks : c < n → Meets c p i next
-  crossed_asks h = record { n = n; rises = w.rises; here = h; room = w.long ∙ w.room; mirrors = w.mirrors }
-
-  crossed_place : c < n → (next1 : List ℕ) → length next1 ≡ length next → c < length next1
-  crossed_place h next1 l = omega (arith, w.long, w.room)
-
-  pub crossed_turn : c < n → {next1 : List ℕ} {q : ℕ} → length next1 ≡ length next → Walked c p i next1 q →
-      Crossed n p i next₀ (set next1 c q) (c + 1)
-  crossed_turn h {next1} {q} l g = record {
-    rises = w.rises;
-    room = w.room;
-    long = length-set next1 c q ∙ l ∙ w.long;
-    within = omega arith;
-    mirrors = walked_next g (crossed_place h next1 l);
-  }
-
-  pub crossed_end : n ≤ c → Mirrors n p i next
-  crossed_end h = let e : c ≡ n = omega (arith, w.within) in rw e at w.mirrors

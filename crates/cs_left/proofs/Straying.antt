@@ -1,25 +1,27 @@
 -- The loops of src/stray.rt. Assumes nothing.
 use mathlib.Core.Path.{◌≡◌, refl, sym, ap, ◌∙◌}
-use mathlib.Core.Bool.{Bool, true, false, not, ◌&&◌, ◌||◌}
-use mathlib.Core.List.{List, [], ◌∷◌, Memᴰ}
+use mathlib.Core.Bool.{Bool, true, false, not, cond, ◌&&◌, ◌||◌}
+use mathlib.Core.List.{List, [], ◌∷◌, ◌++◌, Memᴰ}
 use mathlib.Core.Logic.{◌⊎◌, inl, inr, ⊎_elim}
-use Prim.Native.Nat.{ℕ, suc, ◌+◌, ◌≤◌, ◌<◌}
+use Prim.Native.Nat.{ℕ, zero, suc, ◌+◌, ◌≤◌, ◌<◌}
 use native.Mathlib.Omega.{arith}
 use lib.Dec.{ltb}
 use lib.ListN.{length, get_or, drop}
 use borrow.Author.Tests.{lt-ltb, le-ltb}
+use Rattle.std.specs.List.{list_any, range_with_len}
+use Rattle.std.proofs.Math.Bool.{or_assoc, or-false}
 use Rattle.lists.specs.Choices.{some_of, some, chosen}
 use Rattle.lists.specs.Order.{lists, rises}
 use Rattle.lists.specs.Parts.{part}
 use Rattle.lists.proofs.Bools.{le-or-lt, and-false}
-use Rattle.lists.proofs.Choices.{Upward, upward_turn, upward_found, upward_end}
 use Rattle.lists.proofs.Members.{listed-or-not}
 use Rattle.lists.proofs.Ordering.{rises-apart, member_lists}
 use Rattle.lists.proofs.Parts.{left_at, left-none}
-use Rattle.cs_matrix.specs.Matrix.{column}
+use Rattle.cs_matrix.specs.Matrix.{pattern, column}
+use Rattle.cs_tree.specs.Pattern.{analysis}
 use Rattle.lists.proofs.Spots.{Spot, spot, member_at}
 use Rattle.cs_matrix.proofs.Pointers.{length-column, get_or-column}
-use Rattle.cs_left.specs.Steps.{stray_in, Within, Rises, Mirrors, Sought, Seeks}
+use Rattle.cs_left.specs.Steps.{stray_in, Within, Rises, Seeks}
 use Rattle.cs_left.proofs.Within.{within-part}
 
 -- ---- `stray`: rows before q are no strays, and all that is held before `at` is below the rows from q on
@@ -30,16 +32,6 @@ pub record Straying (k : ℕ) (rows held : List ℕ) (q at : ℕ) : Type 0 where
   pub in_held : at ≤ length held
   pub rest : stray_in k held rows ≡ stray_in k held (drop q rows)
   pub passed : (h r : ℕ) → h < at → q ≤ r → r < length rows → get_or held h 0 < get_or rows r 0
-
-pub straying_start : (k : ℕ) {rows held : List ℕ} → (rises rows ≡ true) × (rises held ≡ true) → Straying k rows held 0 0
-straying_start k a = record {
-  rows_rise = a.0;
-  held_rise = a.1;
-  in_rows = omega arith;
-  in_held = omega arith;
-  rest = refl;
-  passed = λ h r g. absurd (omega arith);
-}
 
 module _ {k : ℕ} {rows held : List ℕ} {q at : ℕ} (w : Straying k rows held q at) where
   module _ (h : q < length rows) {row : ℕ} (e : row ≡ get_or rows q 0) where
@@ -118,9 +110,6 @@ module _ {k : ℕ} {rows held : List ℕ} {q at : ℕ} (w : Straying k rows held
   straying_end h = sym (w.rest ∙ ap (stray_in k held) (left-none rows q h))
 
 -- ---- `strays`
-abbrev pub stray_at : List ℕ → List ℕ → List ℕ → List ℕ → ℕ → Bool
-stray_at p i lp li k = stray_in k (column lp k li) (column p k i)
-
 module _ {n k a e s f : ℕ} {p i lp li : List ℕ} (v : Rises n p i × Rises n lp li) (h : k < n) (x : a ≡ get_or p k 0) (y : e ≡ get_or p (k + 1) 0)
     (z : s ≡ get_or lp k 0) (t : f ≡ get_or lp (k + 1) 0) where
   rows_are : part a e i ≡ column p k i
@@ -132,7 +121,7 @@ module _ {n k a e s f : ℕ} {p i lp li : List ℕ} (v : Rises n p i × Rises n 
   pub stray_asks : (rises (part a e i) ≡ true) × (rises (part s f li) ≡ true)
   stray_asks = (rw rows_are (v.0.rise k h), rw held_are (v.1.rise k h))
 
-  pub stray_here : {r : Bool} → r ≡ stray_in k (part s f li) (part a e i) → stray_at p i lp li k ≡ r
+  pub stray_here : {r : Bool} → r ≡ stray_in k (part s f li) (part a e i) → stray_in k (column lp k li) (column p k i) ≡ r
   stray_here g = sym (g ∙ ap (λ (l : List ℕ). stray_in k l (part a e i)) held_are ∙ ap (stray_in k (column lp k li)) rows_are)
 
 -- ---- `stray_at`: no row is a stray that is at or above the diagonal or has a place in L
@@ -144,14 +133,11 @@ none_stray k held (z ∷ rows) h =
     let rest = none_stray k held rows (λ q g. h (suc q) (omega arith)) in
     ⊎_elim (λ (g : z ≤ k). rw (le-ltb k z g) rest) (λ (m : Memᴰ z held). rw (member_lists z held m, and-false (ltb k z)) rest) (h 0 (omega arith))
 
-module _ {k : ℕ} {p i lp li next : List ℕ} (w : Seeks k p i lp li next) where
+module _ {m n k : ℕ} {p i tr up ui lp li next : List ℕ} (w : Seeks k (pattern m n p i) (analysis tr up ui lp li) next) where
   pub seeks_stored : Within k p i
   seeks_stored = w.sought.stored.each k w.here
 
-  pub seeks_held : Within k lp li
-  seeks_held = w.sought.held.each k w.here
-
-  pub seeks_both : Rises w.n p i × Rises w.n lp li
+  pub seeks_both : Rises n p i × Rises n lp li
   seeks_both = (w.sought.stored, w.sought.held)
 
   -- all rows of the column are met
@@ -163,7 +149,7 @@ module _ {k : ℕ} {p i lp li next : List ℕ} (w : Seeks k p i lp li next) wher
           let l = length-column p k i seeks_stored.inside in
           let y = get_or p k 0 + q in
           let d : get_or (column p k i) q 0 ≡ get_or i y 0 = get_or-column p k i q 0 (omega arith) in
-          let z : get_or i y 0 < w.n = w.sought.below y (omega (arith, seeks_stored.inside)) in
+          let z : get_or i y 0 < n = w.sought.below y (omega (arith, seeks_stored.inside)) in
           rw d
           (⊎_elim
           (λ (a : get_or i y 0 ≤ k). inl a)
@@ -171,20 +157,21 @@ module _ {k : ℕ} {p i lp li next : List ℕ} (w : Seeks k p i lp li next) wher
           (λ (b : k < get_or i y 0). inr (w.sought.mirrored k (get_or i y 0) z b a)) (le-or-lt (get_or i y 0) k))
           (w.mirrors.met k y w.here (omega arith) (omega arith)))
 
--- ---- `some_stray`
-module _ {n k : ℕ} (p i lp li : List ℕ) (w : Upward n (stray_at p i lp li) k) (h : k < n) {r : Bool} (g : r ≡ stray_at p i lp li k) where
-  pub strays-found : r ≡ true → true ≡ some (chosen n (stray_at p i lp li))
-  strays-found j = sym ((upward_found w h (sym g ∙ j)).found h).0
+-- ---- `some_stray`: some number below n passes a test
+any_more : (f : ℕ → Bool) (a n : ℕ) → list_any f (range_with_len a (suc n)) ≡ (list_any f (range_with_len a n) || f (a + n))
+any_more f a zero = let e : a + 0 ≡ a = omega arith in rw e (or-false (f a))
+any_more f a (suc n) =
+    let e : a + 1 + n ≡ a + suc n = omega arith in
+    ap (λ (b : Bool). f a || b) (any_more f (a + 1) n ∙ (rw e refl)) ∙ sym (or_assoc (f a) (list_any f (range_with_len (a + 1) n)) (f (a + suc n)))
 
-  pub strays-turn : r ≡ false → Upward n (stray_at p i lp li) (k + 1)
-  strays-turn j = upward_turn w h (sym g ∙ j)
+some_more : (l : List ℕ) (b : Bool) (n : ℕ) → (some l || b) ≡ some (l ++ cond b (n ∷ []) [])
+some_more [] true n = refl
+some_more [] false n = refl
+some_more (x ∷ l) b n = refl
 
-pub strays-end : {n : ℕ} (p i lp li : List ℕ) {k : ℕ} → Upward n (stray_at p i lp li) k → n ≤ k → false ≡ some (chosen n (stray_at p i lp li))
-strays-end p i lp li w h = sym ((upward_end w h).none h)
-
--- ---- the scratch that is sought with
-pub sought_kept : {n : ℕ} {p i lp li : List ℕ} {m l : ℕ} → l ≡ m → Sought n p i lp li m → Sought n p i lp li l
-sought_kept e w = rw e w
-
-pub seeks_at : {n k : ℕ} {p i lp li next : List ℕ} → Sought n p i lp li (length next) × Mirrors n p i next → k < n → Seeks k p i lp li next
-seeks_at {n} a h = record { n = n; here = h; sought = a.0; mirrors = a.1 }
+pub any-chosen : (f : ℕ → Bool) (n : ℕ) → list_any f (range_with_len 0 n) ≡ some (chosen n f)
+unfolding chosen
+any-chosen f zero = refl
+any-chosen f (suc n) =
+    let e : 0 + n ≡ n = omega arith in
+    any_more f 0 n ∙ (rw (e, any-chosen f n) (some_more (chosen n f) (f n) n))

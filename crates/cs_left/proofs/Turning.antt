@@ -22,11 +22,10 @@ use Rattle.lists.proofs.Members.{listed-or-not}
 use Rattle.lists.proofs.Ordering.{rising_once, rising_rises}
 use Rattle.lists.proofs.Parts.{length-placed}
 use Rattle.lists.proofs.Places.{placed-after}
-use Rattle.cs_matrix.specs.Matrix.{pattern, matrix, column}
+use Rattle.cs_matrix.specs.Matrix.{pattern, Matrix, matrix, column}
 use Rattle.cs_matrix.proofs.Pointers.{at_most, length-column, get_or-column}
-use Rattle.cs_tree.specs.Pattern.{upper, lower, entries}
+use Rattle.cs_tree.specs.Pattern.{analysis, upper, lower, entries}
 use Rattle.cs_pattern.specs.Columns.{columns}
-use Rattle.cs_cholesky.specs.declared.Factored.{Factored}
 use Rattle.cs_cholesky.specs.Factor.{Outcome, factored}
 use Rattle.cs_cholesky.specs.Served.{Served}
 use Rattle.cs_cholesky.proofs.Factoring.{Reached, reached-start, reached-turn, reached_stop, reached-end}
@@ -35,7 +34,7 @@ use Rattle.root.specs.Root.{root_of}
 use Rattle.lists.proofs.Spots.{member_at, along-same}
 use Rattle.lists.proofs.Positions.{once-apart, drop-same, flatten_last, part-flat, along-keeps}
 use Rattle.cs_left.specs.Left.{put_at, add_column, add_columns, left_x, left_step, quotients, left, strays}
-use Rattle.cs_left.specs.Steps.{zero_at, add_held, advance, Next, Crossing, Within, Gathers, Finishes, Asked, Ended}
+use Rattle.cs_left.specs.Steps.{zero_at, add_held, advance, Next, Crossing, Within, Gathers, Finishes, Asked}
 use Rattle.cs_left.proofs.Columns.{length-quotients}
 use Rattle.cs_left.proofs.Cutting.{cut_here, cut_first, next_on, next_stays, length_advances, advance_missing, advance_hit}
 use Rattle.cs_left.proofs.Placed.{in-lower, x_off, diagonal-in}
@@ -132,20 +131,20 @@ module _ {n : ℕ} {p i : List ℕ} {v : List Float} {up ui lp li : List ℕ} {r
   l_last = S.l_laid.pointed.at n (omega (arith, S.l_long)) ∙ ap entries (take_all n ls (omega (arith, S.l_long))) ∙ S.promised.counts
 
 -- ---- the state before column k
-pub record State (n : ℕ) (p i : List ℕ) (v : List Float) (lp : List ℕ) (lx₀ : List Float) (next : List ℕ) (lx x : List Float) (k : ℕ) : Type 0 where
+pub record State (a : Matrix) (lp : List ℕ) (lx₀ : List Float) (next : List ℕ) (lx x : List Float) (k : ℕ) : Type 0 where
   pub done : List (List Float)
   pub count : length done ≡ k
   pub starts : (j : ℕ) → j ≤ k → length (flatten (take j done)) ≡ get_or lp j 0
   pub held : take (length (flatten done)) lx ≡ flatten done
-  pub reached : Reached (left_step (matrix n n p i v) (upper (columns (pattern n n p i))) (lower (columns (pattern n n p i)))) n k done
+  pub reached : Reached (left_step a (upper (columns a.pattern)) (lower (columns a.pattern))) a.pattern.ncols k done
   pub lx_long : length lx ≡ length lx₀
-  pub rest : drop (entries (upper (columns (pattern n n p i)))) lx ≡ drop (entries (upper (columns (pattern n n p i)))) lx₀
-  pub next_long : length next ≡ n
-  pub next_at : (j : ℕ) → j < k → Next k (get_or (lower (columns (pattern n n p i))) j []) (get_or lp j 0) (get_or next j 0)
-  pub zeros : x ≡ replicate n none
+  pub rest : drop (entries (upper (columns a.pattern))) lx ≡ drop (entries (upper (columns a.pattern))) lx₀
+  pub next_long : length next ≡ a.pattern.ncols
+  pub next_at : (j : ℕ) → j < k → Next k (get_or (lower (columns a.pattern)) j []) (get_or lp j 0) (get_or next j 0)
+  pub zeros : x ≡ replicate a.pattern.ncols none
 
-pub state_start : {n : ℕ} {p i : List ℕ} {v : List Float} {up ui lp li : List ℕ} {room : ℕ} {next : List ℕ} (lx : List Float) {x : List Float} →
-    Asked n p i v up ui lp li room next x → State n p i v lp lx next lx x 0
+pub state_start : {n : ℕ} {p i : List ℕ} {v : List Float} {tr up ui lp li : List ℕ} {room : ℕ} {next : List ℕ} (lx : List Float) {x : List Float} →
+    Asked (matrix n n p i v) (analysis tr up ui lp li) room next x → State (matrix n n p i v) lp lx next lx x 0
 unfolding flatten entries
 state_start {n} {p} {i} {v} {lp = lp} lx a =
     record {
@@ -164,10 +163,7 @@ state_start {n} {p} {i} {v} {lp = lp} lx a =
 -- ---- one column
 module _ {n : ℕ} {p i : List ℕ} {v : List Float} {up ui lp li : List ℕ} {room : ℕ} (S : Served n p i v up ui lp li room)
     (Q : strays (matrix n n p i v) ≡ false)
-    {lx₀ : List Float} (R : room ≡ length lx₀) {next : List ℕ} {lx x : List Float} {k : ℕ} (w : State n p i v lp lx₀ next lx x k) where
-  abbrev D : List (List ℕ)
-  D = columns (pattern n n p i)
-
+    {lx₀ : List Float} (R : room ≡ length lx₀) {next : List ℕ} {lx x : List Float} {k : ℕ} (w : State (matrix n n p i v) lp lx₀ next lx x k) where
   abbrev U : List (List ℕ)
   U = upper (columns (pattern n n p i))
 
@@ -192,17 +188,17 @@ module _ {n : ℕ} {p i : List ℕ} {v : List Float} {up ui lp li : List ℕ} {r
       (w.starts j (omega arith)) (w.starts (j + 1) (omega arith))
 
   -- at the end of all columns
-  pub state_end : n ≤ k → {r : Factored} → r ≡ factored 0 0 none → Ended (entries U) (left (matrix n n p i v)) r lx₀ lx
+  pub state_end : n ≤ k → (((left (matrix n n p i v)).answer ≡ factored 0 0 none) ×
+      (take (entries U) lx ≡ flatten (left (matrix n n p i v)).columns)) ×
+      (drop (entries U) lx ≡ drop (entries U) lx₀)
   unfolding left
-  state_end h e =
+  state_end h =
       let z : n ≡ k = omega (arith, w.reached.within) in
       let f = reached-end (left_step (matrix n n p i v) U L) w.reached h in
-      let t : entries U ≡ length (flatten w.done) = sym (l_last S) ∙ ap (λ (m : ℕ). get_or lp m 0) z ∙ sym done_long in
-      record {
-        answer_is = e ∙ ap (λ (o : Outcome). o.answer) (sym f);
-        whole = λ q. ap (λ (m : ℕ). take m lx) t ∙ w.held ∙ ap (λ (o : Outcome). flatten o.columns) (sym f);
-        rest = w.rest;
-      }
+      let t : entries U ≡ length (flatten w.done) = sym (l_last S) ∙ ap (λ (m : ℕ). get_or lp m 0) z ∙ sym done_long in (
+        (ap (λ (o : Outcome). o.answer) f, ap (λ (m : ℕ). take m lx) t ∙ w.held ∙ ap (λ (o : Outcome). flatten o.columns) (sym f)),
+        w.rest,
+      )
 
   module _ (h : k < n) where
     crossing : {j : ℕ} → j < k → Memᴰ j (get_or U k []) → Crossing k lp li lx next (length x) j
@@ -230,7 +226,7 @@ module _ {n : ℕ} {p i : List ℕ} {v : List Float} {up ui lp li : List ℕ} {r
               omega (arith, r, x_long, (l_row S b (q - get_or lp j 0) (omega (arith, l_size S b))).1);
         }
 
-    pub state_gathers : Gathers k p i v up ui lp li lx next (length x)
+    pub state_gathers : {tr : List ℕ} → Gathers k (matrix n n p i v) (analysis tr up ui lp li) lx next (length x)
     state_gathers =
         record {
           small = omega (arith, S.valid.pattern.cols);
@@ -285,11 +281,12 @@ module _ {n : ℕ} {p i : List ℕ} {v : List Float} {up ui lp li : List ℕ} {r
       unfolding left_step
       pivot_is = g.0 ∙ ap (λ (s : List Float). get_or s k nan) x_is
 
-      pub state_stop : lt none pivot ≡ false → Ended (entries U) (left (matrix n n p i v)) (factored 11 k pivot) lx₀ lx
+      pub state_stop : lt none pivot ≡ false → ((factored 11 k pivot ≡ (left (matrix n n p i v)).answer) × ((factored 11 k pivot).number ≡ 11)) ×
+          (drop (entries U) lx ≡ drop (entries U) lx₀)
       unfolding left
       state_stop t =
           let f = reached_stop (left_step (matrix n n p i v) U L) w.reached h pivot_is t in
-          record { answer_is = ap (λ (o : Outcome). o.answer) (sym f); whole = λ q. absurd (omega arith); rest = w.rest }
+          ((ap (λ (o : Outcome). o.answer) (sym f), refl), w.rest)
 
       pub state_finishes : Finishes k lp li lx next1 (length y)
       state_finishes =
@@ -409,7 +406,7 @@ module _ {n : ℕ} {p i : List ℕ} {v : List Float} {up ui lp li : List ℕ} {r
                 ∙ ⊎_elim (λ m. zero_on (get_or L k []) y z (omega (arith, l, x_long)) m.1) (λ m. zero_off (get_or L k []) y z m.1 ∙
                 ap (λ (s : List Float). get_or s z nan) x_is ∙ x_off S Q h w.done m.1 b) (listed-or-not z (get_or L k []))
 
-        pub state_turn : State n p i v lp lx₀ next2 lx1 y1 (k + 1)
+        pub state_turn : State (matrix n n p i v) lp lx₀ next2 lx1 y1 (k + 1)
         state_turn =
             record {
               done = more;

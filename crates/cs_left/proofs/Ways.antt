@@ -8,14 +8,14 @@ use lib.Dec.{eqb}
 use lib.Ieee.{Float}
 use lib.ListN.{length, get_or}
 use Rattle.lists.specs.Calls.{lowest, none, Scratch, scratch, cleared, wiped, lent, worked, leaves}
-use Rattle.lists.specs.Choices.{some, chosen}
+use Rattle.lists.specs.Choices.{some}
 use Rattle.lists.specs.Parts.{part, placed}
 use Rattle.lists.proofs.Calls.{wiped_each}
 use Rattle.lists.proofs.Chosen.{chosen_alike}
 use Rattle.lists.proofs.Clearing.{length-cleared, cleared-again}
 use Rattle.lists.proofs.Laying.{part_long}
 use Rattle.lists.proofs.Ordering.{rising_rises}
-use Rattle.lists.proofs.Returning.{back_long, front-zeros, cleared-after}
+use Rattle.lists.proofs.Returning.{front-zeros, cleared-after}
 use Rattle.cs_matrix.specs.Matrix.{pattern, Matrix, matrix, column, needed}
 use Rattle.cs_tree.specs.Pattern.{Analysis, analysis, upper, lower, entries}
 use Rattle.cs_pattern.specs.Columns.{columns}
@@ -27,12 +27,12 @@ use Rattle.cs_cholesky.proofs.Factoring.{factor-ends}
 use Rattle.cs_cholesky.proofs.Serving.{Passed, passed}
 use Rattle.cs_cholesky.proofs.Ways.{at_judge, at-refusal, at-end}
 use Rattle.cs_left.specs.Left.{left, left_step, stray, strays, number}
-use Rattle.cs_left.specs.Steps.{stray_in, Sought, Asked}
+use Rattle.cs_left.specs.Steps.{stray_in, some_stray, Sought, Asked}
 use Rattle.cs_left.proofs.Turning.{l_column, p_within, l_within}
 
 -- ---- 9, as it is told
 module _ {n : ℕ} {p i : List ℕ} {v : List Float} {up ui lp li : List ℕ} {room : ℕ} (S : Served n p i v up ui lp li room) where
-  pub strays_asks : Sought n p i lp li n
+  pub strays_asks : {m : ℕ} {tr : List ℕ} → Sought (pattern m n p i) (analysis tr up ui lp li) n
   strays_asks =
       record {
         stored = record { few = S.valid.pattern.cols; each = λ k h. p_within S h; rise = S.valid.pattern.rise };
@@ -43,9 +43,9 @@ module _ {n : ℕ} {p i : List ℕ} {v : List Float} {up ui lp li : List ℕ} {r
         room = refl;
       }
 
-  pub strays_are : some (chosen n (λ k. stray_in k (column lp k li) (column p k i))) ≡ strays (matrix n n p i v)
+  pub strays_are : (m : ℕ) (tr : List ℕ) → some_stray (pattern m n p i) (analysis tr up ui lp li) ≡ strays (matrix n n p i v)
   unfolding strays stray stray_in
-  strays_are =
+  strays_are m tr =
       ap some
       (chosen_alike n (λ k. stray_in k (column lp k li) (column p k i)) (stray (columns (pattern n n p i)) (lower (columns (pattern n n p i))))
       (λ k h. ap (λ (l : List ℕ). stray_in k l (column p k i)) (l_column S h) ∙ ap (stray_in k (get_or (lower (columns (pattern n n p i))) k []))
@@ -126,16 +126,10 @@ module _ (nrows n : ℕ) (p i : List ℕ) (v : List Float) (tr up ui lp li : Lis
       pub way_x : n ≤ length xa
       way_x = omega (arith, ap length xa_is, length-cleared none (n + 1) x, P.wide.in_x)
 
-      pub way_w1_long : (ys : List ℕ) → length ys ≡ length (part 0 n w1a) → length (placed 0 n w1a ys) ≡ length w1a
-      way_w1_long ys l = back_long n w1a ys way_w1 l
-
-      pub way_x_long : (zs : List Float) → length zs ≡ length (part 0 n xa) → length (placed 0 n xa zs) ≡ length xa
-      way_x_long zs l = back_long n xa zs way_x l
-
-      module _ {b : Bool} {w2b : List ℕ} (g : (b ≡ some (chosen n (λ k. stray_in k (column lp k li) (column p k i)))) ×
+      module _ {b : Bool} {w2b : List ℕ} (g : (b ≡ some_stray a.pattern given) ×
           (w2b ≡ cleared 0 (n + 1) w2a)) where
         stray-square : strays (matrix n n p i v) ≡ b
-        stray-square = sym (g.0 ∙ strays_are P.served)
+        stray-square = sym (g.0 ∙ strays_are P.served nrows tr)
 
         w2_back : w2b ≡ w2a
         w2_back = g.1 ∙ ap (cleared 0 (n + 1)) w2_is ∙ cleared-again 0 (n + 1) w2 ∙ sym w2_is
@@ -150,7 +144,7 @@ module _ (nrows n : ℕ) (p i : List ℕ) (v : List Float) (tr up ui lp li : Lis
             rw (f, w2_back) (at-refusal a given lx old rest t (left a) e.0 h u (omega arith) (omega arith) clear_need)
 
         module _ (q : b ≡ false) where
-          pub way_asks : Asked n p i v up ui lp li (length lx) (part 0 n w1a) (part 0 n xa)
+          pub way_asks : Asked (matrix n n p i v) given (length lx) (part 0 n w1a) (part 0 n xa)
           way_asks =
               record {
                 served = P.served;

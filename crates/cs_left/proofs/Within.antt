@@ -4,22 +4,17 @@ use mathlib.Core.List.{List}
 use Prim.Native.Nat.{ℕ, ◌+◌, ◌≤◌}
 use native.Mathlib.Omega.{arith}
 use lib.Ieee.{Float, nan}
-use lib.ListN.{length, get_or, set}
+use lib.ListN.{length, get_or}
 use Rattle.lists.specs.Entries.{Entries}
 use Rattle.lists.specs.Folds.{along, over}
 use Rattle.lists.specs.Parts.{part, placed}
 use Rattle.lists.proofs.Parts.{length_part}
-use Rattle.cs_matrix.specs.Matrix.{column}
+use Rattle.cs_matrix.specs.Matrix.{matrix, column}
+use Rattle.cs_tree.specs.Pattern.{analysis}
 use Rattle.cs_left.specs.Left.{put_at, quotients}
 use Rattle.cs_left.specs.Steps.{zero_at, add_held, advance, Places, Within, Crossings, Gathers, Finishes}
 
 module _ {k a e : ℕ} {p i : List ℕ} (w : Within k p i) (x : a ≡ get_or p k 0) (y : e ≡ get_or p (k + 1) 0) where
-  pub within_order : a ≤ e
-  within_order = omega (arith, w.order)
-
-  pub within_inside : e ≤ length i
-  within_inside = omega (arith, w.inside)
-
   pub within-part : {A : Type 0} (l : List A) → part a e l ≡ column p k l
   unfolding column
   within-part l = rw (x, y) refl
@@ -27,37 +22,25 @@ module _ {k a e : ℕ} {p i : List ℕ} (w : Within k p i) (x : a ≡ get_or p k
 -- ---- `finish`
 module _ {k s e m : ℕ} {lp li next : List ℕ} {lx : List Float} (w : Finishes k lp li lx next m) (a : s ≡ get_or lp k 0)
     (b : e ≡ get_or lp (k + 1) 0) where
-  pub finish_order : s ≤ e
-  finish_order = within_order w.laid a b
-
-  pub finish_li : e ≤ length li
-  finish_li = within_inside w.laid a b
-
   pub finish_lx : e ≤ length lx
   finish_lx = omega (arith, w.in_lx)
-
-  pub finish_fits : s + 1 ≤ 4194305
-  finish_fits = omega (arith, w.few, finish_order)
 
   pub finish_asks : Places m (part s e li) (length (part s e lx))
   finish_asks = rw (within-part w.laid a b li, length_part s e lx finish_lx, a, b) w.places
 
   pub finished : (d : Float) (x : List Float) {ys y : List Float} → (ys ≡ quotients d (part s e li) x) × (y ≡ along zero_at (part s e li) x)
       → (placed s e lx ys ≡ placed (get_or lp k 0) (get_or lp (k + 1) 0) lx (quotients d (column lp k li) x)) ×
-      (y ≡ along zero_at (column lp k li) x) × (set next k (s + 1) ≡ set next k (get_or lp k 0 + 1))
+      (y ≡ along zero_at (column lp k li) x)
   finished d x {ys} {y} g =
       let z = within-part w.laid a b li in (
         ap (placed s e lx) (g.0 ∙ ap (λ (l : List ℕ). quotients d l x) z) ∙ (rw (a, b) refl),
         g.1 ∙ ap (λ (l : List ℕ). along zero_at l x) z,
-        rw a refl,
       )
 
 -- ---- `gather`
-module _ {k m : ℕ} {p i up ui lp li next : List ℕ} {v lx : List Float} (w : Gathers k p i v up ui lp li lx next m) where
+module _ {d k m : ℕ} {p i tr up ui lp li next : List ℕ} {v lx : List Float}
+    (w : Gathers k (matrix d d p i v) (analysis tr up ui lp li) lx next m) where
   module _ {a e : ℕ} (f : a ≡ get_or p k 0) (g : e ≡ get_or p (k + 1) 0) where
-    pub gather_v : e ≤ length v
-    gather_v = omega (arith, w.v_inside)
-
     pub gather_loads : Entries m (part a e i) (part a e v)
     gather_loads = rw (within-part w.stored f g i, within-part w.stored f g v) w.entries
 

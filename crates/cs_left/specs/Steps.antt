@@ -1,15 +1,14 @@
 -- What the steps of the left factoring ask and leave, on plain lists. Assumes nothing.
-use Rattle.std.specs.Prelude.{◌≡◌, Bool, true, false, not, cond, ◌&&◌, ◌⊎◌, ℕ, ◌+◌, ◌-◌, ◌≤◌, ◌<◌, ltb, eqb, Float, length, get_or, set, take, drop}
+use Rattle.std.specs.Prelude.{◌≡◌, Bool, true, false, not, cond, ◌&&◌, ◌⊎◌, ℕ, ◌+◌, ◌-◌, ◌≤◌, ◌<◌, ltb, eqb, Float, length, get_or, set}
 use Rattle.std.specs.Prelude.{replicate}
-use mathlib.Core.List.{List, flatten, Memᴰ}
+use mathlib.Core.List.{List, Memᴰ}
 use Rattle.lists.specs.Calls.{none}
-use Rattle.lists.specs.Choices.{some_of}
+use Rattle.lists.specs.Choices.{some_of, some, chosen}
 use Rattle.lists.specs.Entries.{Entries}
 use Rattle.lists.specs.Folds.{along}
 use Rattle.lists.specs.Order.{lists, rises}
-use Rattle.cs_matrix.specs.Matrix.{matrix, column}
-use Rattle.cs_cholesky.specs.declared.Factored.{Factored}
-use Rattle.cs_cholesky.specs.Factor.{Outcome}
+use Rattle.cs_matrix.specs.Matrix.{Pattern, Matrix, column}
+use Rattle.cs_tree.specs.Pattern.{Analysis}
 use Rattle.cs_cholesky.specs.Served.{Served}
 use Rattle.cs_left.specs.Left.{add_column, strays}
 
@@ -28,6 +27,14 @@ advance k j w = cond (ltb j k) (set w j (get_or w j 0 + 1)) w
 -- one of the rows is below k and absent from those held
 unfoldable pub stray_in : ℕ → List ℕ → List ℕ → Bool
 stray_in k held rows = some_of (λ i. ltb k i && not (lists i held)) rows
+
+-- so is a row of column k, where L's columns are held by the lent analysis
+abbrev pub stray_at : Pattern → Analysis → ℕ → Bool
+stray_at a given k = stray_in k (column given.lp k given.li) (column a.p k a.i)
+
+-- so is one of some column
+abbrev pub some_stray : Pattern → Analysis → Bool
+some_stray a given = some (chosen a.ncols (stray_at a given))
 
 -- a column's rows, each once and below m, with room for c values
 pub record Places (m : ℕ) (rows : List ℕ) (c : ℕ) : Type 0 where
@@ -72,14 +79,14 @@ pub record Within (k : ℕ) (p i : List ℕ) : Type 0 where
   pub inside : get_or p (k + 1) 0 ≤ length i
 
 -- what column k is gathered from, into m places
-pub record Gathers (k : ℕ) (p i : List ℕ) (v : List Float) (up ui lp li : List ℕ) (lx : List Float) (next : List ℕ) (m : ℕ) : Type 0 where
+pub record Gathers (k : ℕ) (a : Matrix) (given : Analysis) (lx : List Float) (next : List ℕ) (m : ℕ) : Type 0 where
   pub small : k < 65535
   pub here : k < m
-  pub stored : Within k p i
-  pub v_inside : get_or p (k + 1) 0 ≤ length v
-  pub entries : Entries m (column p k i) (column p k v)
-  pub listed : Within k up ui
-  pub crossings : Crossings k (column up k ui) lp li lx next m
+  pub stored : Within k a.pattern.p a.pattern.i
+  pub v_inside : get_or a.pattern.p (k + 1) 0 ≤ length a.v
+  pub entries : Entries m (column a.pattern.p k a.pattern.i) (column a.pattern.p k a.v)
+  pub listed : Within k given.up given.ui
+  pub crossings : Crossings k (column given.up k given.ui) given.lp given.li lx next m
 
 -- what column k of L is finished from
 pub record Finishes (k : ℕ) (lp li : List ℕ) (lx : List Float) (next : List ℕ) (m : ℕ) : Type 0 where
@@ -121,30 +128,23 @@ pub record Walked (c : ℕ) (p i next : List ℕ) (q : ℕ) : Type 0 where
   pub mirrors : Mirrors c p i next
   pub above : (y : ℕ) → get_or p c 0 ≤ y → y < q → get_or i y 0 ≤ c
 
--- strays are sought in n columns, with m places for `next`: L has a place for the mirror of each stored row above the diagonal
-pub record Sought (n : ℕ) (p i lp li : List ℕ) (m : ℕ) : Type 0 where
-  pub stored : Rises n p i
-  pub held : Rises n lp li
-  pub mirrored : (r z : ℕ) → z < n → r < z → Memᴰ r (column p z i) → Memᴰ z (column lp r li)
-  pub below : (q : ℕ) → q < length i → get_or i q 0 < n
-  pub room : m ≡ n
+-- strays are sought, with m places for `next`: L has a place for the mirror of each stored row above the diagonal
+pub record Sought (a : Pattern) (given : Analysis) (m : ℕ) : Type 0 where
+  pub stored : Rises a.ncols a.p a.i
+  pub held : Rises a.ncols given.lp given.li
+  pub mirrored : (r z : ℕ) → z < a.ncols → r < z → Memᴰ r (column a.p z a.i) → Memᴰ z (column given.lp r given.li)
+  pub below : (q : ℕ) → q < length a.i → get_or a.i q 0 < a.ncols
+  pub room : m ≡ a.ncols
 
 -- and in column k, once all rows are met that can be
-pub record Seeks (k : ℕ) (p i lp li next : List ℕ) : Type 0 where
-  pub n : ℕ
-  pub here : k < n
-  pub sought : Sought n p i lp li (length next)
-  pub mirrors : Mirrors n p i next
+pub record Seeks (k : ℕ) (a : Pattern) (given : Analysis) (next : List ℕ) : Type 0 where
+  pub here : k < a.ncols
+  pub sought : Sought a given (length next)
+  pub mirrors : Mirrors a.ncols a.p a.i next
 
--- what a factoring of n columns starts from: all that is stored below the diagonal has its place in L, and x is zeros
-pub record Asked (n : ℕ) (p i : List ℕ) (v : List Float) (up ui lp li : List ℕ) (room : ℕ) (next : List ℕ) (x : List Float) : Type 0 where
-  pub served : Served n p i v up ui lp li room
-  pub none_stray : strays (matrix n n p i v) ≡ false
-  pub next_long : length next ≡ n
-  pub zeros : x ≡ replicate n none
-
--- what it comes to, where U has t entries
-pub record Ended (t : ℕ) (f : Outcome) (r : Factored) (old new : List Float) : Type 0 where
-  pub answer_is : r ≡ f.answer
-  pub whole : r.number ≡ 0 → take t new ≡ flatten f.columns
-  pub rest : drop t new ≡ drop t old
+-- what a factoring of a square matrix starts from: all that is stored below the diagonal has its place in L, and x is zeros
+pub record Asked (a : Matrix) (given : Analysis) (room : ℕ) (next : List ℕ) (x : List Float) : Type 0 where
+  pub served : Served a.pattern.ncols a.pattern.p a.pattern.i a.v given.up given.ui given.lp given.li room
+  pub none_stray : strays a ≡ false
+  pub next_long : length next ≡ a.pattern.ncols
+  pub zeros : x ≡ replicate a.pattern.ncols none

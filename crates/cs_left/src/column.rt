@@ -15,26 +15,23 @@ pub fn load(k: usize, rows: &[u32], vals: &[f64], x: &mut [f64])
     requires { Entries (length x.old) rows.now vals.now }
     ensures { x.new ≡ over (put_at k) rows.now vals.now x.old }
 {
-    let mut q = 0;
-    while q < rows.len() {
-        let z = wide(rows[q]);
+    for (q, &row) in rows.iter().enumerate() {
+        let z = wide(row);
         if z >= k {
             x[z] = vals[q];
         }
-        q += 1;
     }
 }
 
-// x(z) = x(z) + (value times f) for each row z.
+// x(z) = x(z) + (value times f) for each row z. By place: a zip tests two ends at each row. The product has the same step and the next: each
+// asks something of its slices, so that it cannot be public in a crate below both.
 fn add_rows(rows: &[u32], vals: &[f64], f: f64, x: &mut [f64])
     requires { Entries (length x.old) rows.now vals.now }
     ensures { x.new ≡ over (plus_at f) rows.now vals.now x.old }
 {
-    let mut q = 0;
-    while q < rows.len() {
-        let z = wide(rows[q]);
-        x[z] = x[z] + vals[q] * f;
-        q += 1;
+    for (q, &row) in rows.iter().enumerate() {
+        let z = wide(row);
+        x[z] += vals[q] * f;
     }
 }
 
@@ -43,14 +40,12 @@ fn scatter_add(rows: &[u32], vals: &[f64], f: f64, x: &mut [f64])
     requires { Entries (length x.old) rows.now vals.now × (rises rows.now ≡ true) }
     ensures { x.new ≡ over (plus_at f) rows.now vals.now x.old }
 {
-    if rows.len() > 7 {
-        if tight(rows) {
-            let first = wide(rows[0]);
-            add_times(vals, f, &mut x[first..first + vals.len()]);
-            return;
-        }
+    if rows.len() > 7 && tight(rows) {
+        let first = wide(rows[0]);
+        add_times(vals, f, &mut x[first..first + vals.len()]);
+    } else {
+        add_rows(rows, vals, f, x);
     }
-    add_rows(rows, vals, f, x);
 }
 
 // Each j < k of U's column k, in its order: `next` has the place of row k in L's column j, and goes on behind it.
@@ -67,16 +62,14 @@ pub fn add_columns(
     ensures { (x.new ≡ add_held k lp.now li.now lx.now us.now x.old)
         × (next.new ≡ along (advance k) us.now next.old) }
 {
-    let mut q = 0;
-    while q < us.len() {
-        let j = wide(us[q]);
+    for &u in us {
+        let j = wide(u);
         if j < k {
             let s = wide(next[j]);
             let e = wide(lp[j + 1]);
             scatter_add(&li[s..e], &lx[s..e], -lx[s], x);
-            next[j] = (s + 1) as u32;
+            next[j] += 1;
         }
-        q += 1;
     }
 }
 
@@ -85,11 +78,9 @@ pub fn divide(d: f64, rows: &[u32], vals: &mut [f64], x: &mut [f64])
     requires { Places (length x.old) rows.now (length vals.old) }
     ensures { (vals.new ≡ quotients d rows.now x.old) × (x.new ≡ along zero_at rows.now x.old) }
 {
-    let mut q = 0;
-    while q < rows.len() {
-        let z = wide(rows[q]);
+    for (q, &row) in rows.iter().enumerate() {
+        let z = wide(row);
         vals[q] = x[z] / d;
         x[z] = 0.0;
-        q += 1;
     }
 }

@@ -3,50 +3,45 @@
 ghost use Rattle.std.specs.Prelude.{◌≡◌, ◌<◌, length};
 ghost use Rattle.cs_left.specs.Steps.{Within, Rises, Mirrors, Meets, Walked, meet_at};
 
+use cs_matrix::matrix::Pattern;
 use lists::numbers::wide;
 
 // Column c stores row r: the next row of column r is met if it is c.
-fn meet(r: usize, c: usize, p: &[u32], i: &[u32], next: &mut [u32])
-    requires { Within r p.now i.now × (r < length next.old) }
-    ensures { next.new ≡ meet_at c p.now i.now r next.old }
+fn meet(r: usize, c: usize, a: Pattern<'_>, next: &mut [u32])
+    requires { Within r a.p.now a.i.now × (r < length next.old) }
+    ensures { next.new ≡ meet_at c a.entry.p.now a.entry.i.now r next.old }
 {
+    let Pattern { p, i, .. } = a;
     let s = wide(next[r]);
     let e = wide(p[r + 1]);
-    if s >= e {
-        return;
+    if s < e && wide(i[s]) == c {
+        next[r] += 1;
     }
-    if wide(i[s]) != c {
-        return;
-    }
-    next[r] = (s + 1) as u32;
 }
 
 // The rows of column c down to its diagonal, which itself meets nothing that stays. The answer is the place behind them.
-fn meet_rows(c: usize, p: &[u32], i: &[u32], next: &mut [u32]) -> u32
-    requires { Meets c p.now i.now next.old }
-    ensures { Walked c p.now i.now next.new result }
+fn meet_rows(c: usize, a: Pattern<'_>, next: &mut [u32]) -> u32
+    requires { Meets c a.p.now a.i.now next.old }
+    ensures { Walked c a.entry.p.now a.entry.i.now next.new result }
 {
-    let e = wide(p[c + 1]);
-    let mut q = wide(p[c]);
-    while q < e {
-        let r = wide(i[q]);
+    let Pattern { p, i, .. } = a;
+    let end = p[c + 1];
+    for q in p[c]..end {
+        let r = wide(i[wide(q)]);
         if r > c {
-            return q as u32;
+            return q;
         }
-        meet(r, c, p, i, next);
-        q += 1;
+        meet(r, c, a, next);
     }
-    q as u32
+    end
 }
 
 // All columns, rising.
-pub fn meet_columns(n: usize, p: &[u32], i: &[u32], next: &mut [u32])
-    requires { Rises n p.now i.now × (length next.old ≡ n) }
-    ensures { Mirrors n p.now i.now next.new }
+pub fn meet_columns(a: Pattern<'_>, next: &mut [u32])
+    requires { Rises a.ncols a.p.now a.i.now × (length next.old ≡ a.ncols) }
+    ensures { Mirrors a.entry.ncols a.entry.p.now a.entry.i.now next.new }
 {
-    let mut c = 0;
-    while c < n {
-        next[c] = meet_rows(c, p, i, next);
-        c += 1;
+    for c in 0..a.ncols {
+        next[c] = meet_rows(c, a, next);
     }
 }

@@ -1,16 +1,19 @@
 // Number 9: a stored row below the diagonal that L's pattern has no place for.
 ghost use Rattle.std.specs.Prelude.{◌≡◌, true, ◌+◌, ◌≤◌, length};
 ghost use Rattle.lists.specs.Calls.{cleared};
-ghost use Rattle.lists.specs.Choices.{some, chosen};
 ghost use Rattle.lists.specs.Order.{rises};
-ghost use Rattle.cs_matrix.specs.Matrix.{column};
-ghost use Rattle.cs_left.specs.Steps.{stray_in, Mirrors, Seeks, Sought};
+ghost use Rattle.cs_matrix.specs.Lent.{pattern_of};
+ghost use Rattle.cs_pattern.specs.Lent.{analysis_of};
+ghost use Rattle.cs_left.specs.Steps.{stray_in, stray_at, some_stray, Mirrors, Seeks, Sought};
 
 use crate::mirror::meet_columns;
-use lists::clear::clear;
+use cs_matrix::matrix::Pattern;
+use cs_pattern::compare::Analysis;
+use lists::clear::fill;
 use lists::numbers::wide;
 
-// A row below k is absent from the rows held. Both lists rise, so that one pass over both tells.
+// A row below k is absent from the rows held. Both lists rise, so that one pass over both tells: two positions that move apart, which no
+// `for` counts.
 fn stray(k: usize, rows: &[u32], held: &[u32]) -> bool
     requires { (rises rows.now ≡ true) × (rises held.now ≡ true) }
     ensures { result ≡ stray_in k held.now rows.now }
@@ -39,51 +42,47 @@ fn stray(k: usize, rows: &[u32], held: &[u32]) -> bool
 }
 
 // Column k has such a row. Where all its rows are met none is sought.
-fn stray_at(k: usize, p: &[u32], i: &[u32], lp: &[u32], li: &[u32], next: &[u32]) -> bool
-    requires { Seeks k p.now i.now lp.now li.now next.now }
-    ensures { result ≡ stray_in k (column lp.now k li.now) (column p.now k i.now) }
+fn stray_at(k: usize, a: Pattern<'_>, given: Analysis<'_>, next: &[u32]) -> bool
+    requires { Seeks k (pattern_of a) (analysis_of given) next.now }
+    ensures { result ≡ stray_at (pattern_of a.entry) (analysis_of given.entry) k }
 {
-    let a = wide(p[k]);
+    let Pattern { p, i, .. } = a;
+    let Analysis { lp, li, .. } = given;
+    let s = wide(p[k]);
     let e = wide(p[k + 1]);
     if wide(next[k]) == e {
         return false;
     }
-    let s = wide(lp[k]);
+    let b = wide(lp[k]);
     let f = wide(lp[k + 1]);
-    stray(k, &i[a..e], &li[s..f])
+    stray(k, &i[s..e], &li[b..f])
 }
 
 // Some column has.
-fn some_stray(n: usize, p: &[u32], i: &[u32], lp: &[u32], li: &[u32], next: &[u32]) -> bool
-    requires { Sought n p.now i.now lp.now li.now (length next.now) × Mirrors n p.now i.now next.now }
-    ensures { result ≡ some (chosen n (λ k. stray_in k (column lp.now k li.now) (column p.now k i.now))) }
+fn some_stray(a: Pattern<'_>, given: Analysis<'_>, next: &[u32]) -> bool
+    requires { let a = pattern_of a in
+        Sought a (analysis_of given) (length next.now) × Mirrors a.ncols a.p a.i next.now }
+    ensures { result ≡ some_stray (pattern_of a.entry) (analysis_of given.entry) }
 {
-    let mut k = 0;
-    while k < n {
-        if stray_at(k, p, i, lp, li, next) {
-            return true;
-        }
-        k += 1;
-    }
-    false
+    (0..a.ncols).any(|k| stray_at(k, a, given, next))
 }
 
 // The same, once all rows are met that can be.
-fn seek(n: usize, p: &[u32], i: &[u32], lp: &[u32], li: &[u32], next: &mut [u32]) -> bool
-    requires { Sought n p.now i.now lp.now li.now (length next.old) }
-    ensures { result ≡ some (chosen n (λ k. stray_in k (column lp.now k li.now) (column p.now k i.now))) }
+fn seek(a: Pattern<'_>, given: Analysis<'_>, next: &mut [u32]) -> bool
+    requires { Sought (pattern_of a) (analysis_of given) (length next.old) }
+    ensures { result ≡ some_stray (pattern_of a.entry) (analysis_of given.entry) }
 {
-    meet_columns(n, p, i, next);
-    some_stray(n, p, i, lp, li, next)
+    meet_columns(a, next);
+    some_stray(a, given, next)
 }
 
 // The same, with scratch, the needed part of which is left zeros.
-pub fn strays(n: usize, p: &[u32], i: &[u32], lp: &[u32], li: &[u32], w: &mut [u32]) -> bool
-    requires { Sought n p.now i.now lp.now li.now n × (n ≤ length w.old) }
-    ensures { (result ≡ some (chosen n (λ k. stray_in k (column lp.now k li.now) (column p.now k i.now))))
-        × (w.new ≡ cleared 0 (n + 1) w.old) }
+pub fn strays(a: Pattern<'_>, given: Analysis<'_>, w: &mut [u32]) -> bool
+    requires { Sought (pattern_of a) (analysis_of given) a.ncols × (a.ncols ≤ length w.old) }
+    ensures { (result ≡ some_stray (pattern_of a.entry) (analysis_of given.entry)) × (w.new ≡ cleared 0 (a.entry.ncols + 1) w.old) }
 {
-    let found = seek(n, p, i, lp, li, &mut w[0..n]);
-    clear(n + 1, w);
+    let n = a.ncols;
+    let found = seek(a, given, &mut w[0..n]);
+    fill(0, n + 1, w);
     found
 }

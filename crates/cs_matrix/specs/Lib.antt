@@ -1,3 +1,4 @@
+pub mod Lent
 pub mod Matrix
 pub mod Falls
 pub mod Cases

@@ -4,10 +4,14 @@
 ghost use Rattle.std.specs.Prelude.{◌≡◌, ◌+◌, ◌≤◌, length};
 ghost use Rattle.lists.specs.Calls.{lowest};
 ghost use Rattle.cs_matrix.specs.Falls.{fallen, start_falls, starts_fallen, Parted};
-ghost use Rattle.cs_matrix.specs.Matrix.{pattern, matrix, vector, pointers, columns_rise, judged_pattern, judged, judged_vector};
+ghost use Rattle.cs_matrix.specs.Lent.{pattern_of, matrix_of, vector_of};
+ghost use Rattle.cs_matrix.specs.Matrix.{pointers, columns_rise, judged_pattern, judged, judged_vector};
+ghost use Rattle.lists.specs.Refusals.{numbered};
 
-use lists::numbers::{lower, wide};
+use crate::matrix::{MAX_DIMENSION, MAX_ENTRIES, Matrix, Pattern, Vector};
+use lists::numbers::wide;
 use lists::order::all_below;
+use lists::refusal::{Refusal, lower};
 
 // The first pointer is 0, the last is n, and none falls.
 fn pointers_hold(p: &[u32], n: usize) -> bool
@@ -21,15 +25,11 @@ fn pointers_hold(p: &[u32], n: usize) -> bool
     if wide(p[last]) != n {
         return false;
     }
-    let mut falls: u32 = 0;
-    let mut k = 0;
-    while k < last {
-        if p[k + 1] < p[k] {
-            falls = 1;
-        }
-        k += 1;
+    let mut climbs = true;
+    for k in 0..last {
+        climbs &= p[k] <= p[k + 1];
     }
-    falls == 0
+    climbs
 }
 
 // How many rows are not above the one before.
@@ -38,12 +38,10 @@ fn falls(rows: &[u32]) -> u32
     ensures { result ≡ fallen rows.now }
 {
     let mut n: u32 = 0;
-    let mut k = 0;
-    while k + 1 < rows.len() {
-        if rows[k + 1] <= rows[k] {
+    for k in 1..rows.len() {
+        if rows[k] <= rows[k - 1] {
             n += 1;
         }
-        k += 1;
     }
     n
 }
@@ -53,10 +51,7 @@ fn start_falls(i: &[u32], a: usize, e: usize) -> bool
     requires { e ≤ length i.now }
     ensures { result ≡ start_falls i.now a e }
 {
-    if a == 0 {
-        return false;
-    }
-    if e <= a {
+    if a == 0 || e <= a {
         return false;
     }
     i[a] <= i[a - 1]
@@ -68,81 +63,73 @@ fn starts_fallen(ncols: usize, p: &[u32], i: &[u32]) -> u32
     ensures { result ≡ starts_fallen ncols p.now i.now }
 {
     let mut n: u32 = 0;
-    let mut j = 0;
-    while j < ncols {
+    for j in 0..ncols {
         if start_falls(i, wide(p[j]), wide(p[j + 1])) {
             n += 1;
         }
-        j += 1;
     }
     n
 }
 
 // Within each column the rows rise: all that do not rise stand at the start of a column.
-fn columns_rise(nrows: usize, ncols: usize, p: &[u32], i: &[u32]) -> bool
-    requires { Parted ncols p.now i.now }
-    ensures { result ≡ columns_rise (pattern nrows ncols p.now i.now) }
+fn columns_rise(a: Pattern<'_>) -> bool
+    requires { Parted a.ncols a.p.now a.i.now }
+    ensures { result ≡ columns_rise (pattern_of a.entry) }
 {
-    falls(i) == starts_fallen(ncols, p, i)
+    falls(a.i) == starts_fallen(a.ncols, a.p, a.i)
 }
 
-// The lowest refusal number of a pattern, 0 for a valid one.
-pub fn check_pattern(nrows: usize, ncols: usize, p: &[u32], i: &[u32]) -> u32
-    ensures { result ≡ lowest (judged_pattern (pattern nrows ncols p.now i.now)) }
+// What refuses a pattern first, or nothing for a valid one.
+pub fn check_pattern(a: Pattern<'_>) -> Result<(), Refusal>
+    ensures { numbered result ≡ lowest (judged_pattern (pattern_of a.entry)) }
 {
-    if nrows > 65535 {
-        return 1;
-    }
-    if ncols > 65535 {
-        return 1;
-    }
-    if i.len() > 4194304 {
-        return 1;
+    let Pattern { nrows, ncols, p, i } = a;
+    if nrows > MAX_DIMENSION || ncols > MAX_DIMENSION || i.len() > MAX_ENTRIES {
+        return Err(Refusal::TooLarge);
     }
     if p.len() != ncols + 1 {
-        return 2;
+        return Err(Refusal::Disagree);
     }
     if !pointers_hold(p, i.len()) {
-        return 3;
+        return Err(Refusal::BadPointers);
     }
     if !all_below(i, nrows as u32) {
-        return 4;
+        return Err(Refusal::OutOfRange);
     }
-    if !columns_rise(nrows, ncols, p, i) {
-        return 5;
+    if !columns_rise(a) {
+        return Err(Refusal::NotRising);
     }
-    0
+    Ok(())
 }
 
-// The lowest refusal number of a matrix, 0 for a valid one.
-pub fn check(nrows: usize, ncols: usize, p: &[u32], i: &[u32], v: &[f64]) -> u32
-    ensures { result ≡ lowest (judged (matrix nrows ncols p.now i.now v.now)) }
+// The same of a matrix.
+pub fn check(a: Matrix<'_>) -> Result<(), Refusal>
+    ensures { numbered result ≡ lowest (judged (matrix_of a.entry)) }
 {
-    let refused = check_pattern(nrows, ncols, p, i);
-    if i.len() != v.len() {
-        return lower(refused, 2);
+    let Matrix { pattern, v } = a;
+    let refused = check_pattern(pattern);
+    if pattern.i.len() != v.len() {
+        return lower(refused, Err(Refusal::Disagree));
     }
     refused
 }
 
-// The lowest refusal number of a vector below the dimension n, 0 for a valid one.
-pub fn check_vector(n: usize, i: &[u32], v: &[f64]) -> u32
-    ensures { result ≡ lowest (judged_vector (vector n i.now v.now)) }
+// The same of a vector.
+pub fn check_vector(b: Vector<'_>) -> Result<(), Refusal>
+    ensures { numbered result ≡ lowest (judged_vector (vector_of b.entry)) }
 {
-    if n > 65535 {
-        return 1;
-    }
-    if i.len() > 4194304 {
-        return 1;
+    let Vector { n, i, v } = b;
+    if n > MAX_DIMENSION || i.len() > MAX_ENTRIES {
+        return Err(Refusal::TooLarge);
     }
     if v.len() != i.len() {
-        return 2;
+        return Err(Refusal::Disagree);
     }
     if !all_below(i, n as u32) {
-        return 4;
+        return Err(Refusal::OutOfRange);
     }
     if falls(i) != 0 {
-        return 5;
+        return Err(Refusal::NotRising);
     }
-    0
+    Ok(())
 }

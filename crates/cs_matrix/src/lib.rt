@@ -2,5 +2,6 @@
 #![tactic(auto)]
 
 pub mod check;
+pub mod matrix;
 pub mod room;
 pub mod square;

@@ -1,56 +1,53 @@
 // Axpy with a sparse x on a dense y: α x + β y.
 ghost use Rattle.std.specs.Prelude.{◌≡◌};
 ghost use Rattle.lists.specs.Calls.{outputs};
-ghost use Rattle.cs_matrix.specs.Matrix.{vector};
+ghost use Rattle.lists.specs.Refusals.{numbered};
+ghost use Rattle.cs_matrix.specs.Lent.{vector_of};
 ghost use Rattle.cs_ops.specs.Axpy.{assigned, added, axpy as axpyOf, axpy_number, Fitting};
 
 use crate::scale::times;
 use cs_matrix::check::check_vector;
-use lists::numbers::{lower, wide};
+use cs_matrix::matrix::Vector;
+use lists::numbers::wide;
+use lists::refusal::{Refusal, lower};
 
-// y(i) = α times v at x's rows.
-fn assign(n: usize, alpha: f64, i: &[u32], v: &[f64], y: &mut [f64])
-    requires { Fitting (vector n i.now v.now) y.old }
-    ensures { y.new ≡ assigned alpha (vector n i.now v.now) y.old }
+// y(i) = α times x's value, at x's rows.
+fn assign(alpha: f64, x: Vector<'_>, y: &mut [f64])
+    requires { Fitting (vector_of x) y.old }
+    ensures { y.new ≡ assigned alpha (vector_of x.entry) y.old }
 {
-    let mut k = 0;
-    while k < i.len() {
-        let at = wide(i[k]);
-        y[at] = alpha * v[k];
-        k += 1;
+    for (&row, &val) in x.i.iter().zip(x.v) {
+        let at = wide(row);
+        y[at] = alpha * val;
     }
 }
 
-// All of y times β, then α times v added at x's rows.
-fn accumulate(n: usize, alpha: f64, i: &[u32], v: &[f64], beta: f64, y: &mut [f64])
-    requires { Fitting (vector n i.now v.now) y.old }
-    ensures { y.new ≡ added alpha (vector n i.now v.now) beta y.old }
+// All of y times β, then α times x's value added at x's rows.
+fn accumulate(alpha: f64, x: Vector<'_>, beta: f64, y: &mut [f64])
+    requires { Fitting (vector_of x) y.old }
+    ensures { y.new ≡ added alpha (vector_of x.entry) beta y.old }
 {
     times(beta, y);
-    let mut k = 0;
-    while k < i.len() {
-        let at = wide(i[k]);
-        y[at] = y[at] + alpha * v[k];
-        k += 1;
+    for (&row, &val) in x.i.iter().zip(x.v) {
+        let at = wide(row);
+        y[at] += alpha * val;
     }
 }
 
-// y becomes α times x and β times y; x has the dimension n and the rows i with the values v.
-pub fn axpy_cs(n: usize, alpha: f64, i: &[u32], v: &[f64], beta: f64, y: &mut [f64]) -> u32
-    ensures { let x = vector n i.now v.now in
-        (result ≡ axpy_number x y.old) × (y.new ≡ outputs result (axpyOf alpha x beta y.old) y.old) }
+// y becomes α times x and β times y.
+pub fn axpy_cs(alpha: f64, x: Vector<'_>, beta: f64, y: &mut [f64]) -> Result<(), Refusal>
+    ensures { let x = vector_of x.entry in
+        (numbered result ≡ axpy_number x y.old) × (y.new ≡ outputs (numbered result) (axpyOf alpha x beta y.old) y.old) }
 {
-    let refused = check_vector(n, i, v);
-    if y.len() != n {
-        return lower(refused, 2);
+    let refused = check_vector(x);
+    if y.len() != x.n {
+        return lower(refused, Err(Refusal::Disagree));
     }
-    if refused != 0 {
-        return refused;
-    }
+    refused?;
     if beta == 0.0 {
-        assign(n, alpha, i, v, y);
+        assign(alpha, x, y);
     } else {
-        accumulate(n, alpha, i, v, beta, y);
+        accumulate(alpha, x, beta, y);
     }
-    0
+    Ok(())
 }

@@ -1,63 +1,38 @@
 -- What `analyse` answers and leaves, at each of its ways out. Assumes nothing.
-use Rattle.std.proofs.Common.{◌≡◌, ℕ, ◌+◌, ◌-◌, ◌^◌, ◌<◌, ◌≤◌, Bool, true, false, cond, ◌||◌, eqb, ltb, List, [], ◌∷◌, ◌++◌, length, get_or, take}
-use Rattle.std.proofs.Common.{sym, refl, ap, ◌∙◌, ⊎_elim, append_assoc, arith, ltb-false, le-ltb, lt-ltb}
+use Rattle.std.proofs.Common.{◌≡◌, ℕ, ◌+◌, ◌-◌, ◌^◌, ◌<◌, ◌≤◌, Option, Bool, true, false, cond, ◌||◌, eqb, ltb, List, [], ◌∷◌, ◌++◌, length, get_or}
+use Rattle.std.proofs.Common.{sym, refl, ap, ◌∙◌, append_assoc, arith, ltb-false, lt-ltb, le-ltb}
 use mathlib.Core.List.{flatten}
 use lib.Ieee.{Float}
 use Rattle.lists.specs.Calls.{lowest, onto, none, cleared, Scratch, scratch, wiped, narrow, Lent, lent, leaves}
 use Rattle.lists.specs.Parts.{part, placed}
-use Rattle.lists.specs.Keeping.{Kept}
+use Rattle.lists.specs.Keeping.{Kept, Zeros}
 use Rattle.lists.specs.Sums.{sums}
 use Rattle.lists.specs.Runs.{zipped}
 use Rattle.lists.proofs.Runs.{zipped-values}
-use Rattle.lists.proofs.Bools.{or-false, le-or-lt}
+use Rattle.lists.proofs.Bools.{or-false}
 use Rattle.lists.proofs.Calls.{first, then, early, late, done, wiped_each}
 use Rattle.lists.proofs.Clearing.{length-cleared, cleared-again}
 use Rattle.lists.proofs.Laying.{part-onto, part_long}
 use Rattle.lists.proofs.Parts.{length_part, length-placed, get_d_part, length-onto, get_or-onto-front, get_or-onto-rest}
 use Rattle.lists.proofs.Places.{placed-after}
+use Rattle.lists.proofs.Keeping.{kept_then, kept-wider, kept-cleared, kept-onto, kept-placed, kept_clears}
 use Rattle.cs_matrix.specs.Matrix.{Pattern, pattern, needed, ValidPattern, judged_square}
+use Rattle.cs_matrix.proofs.Squaring.{judged6, early_6, Prepared, unprepared}
 use Rattle.cs_tree.specs.Pattern.{Analysis, analysis, analysed, upper, lower, starts, entries}
-use Rattle.lists.specs.Keeping.{Zeros}
-use Rattle.cs_tree.specs.Steps.{Given, lengths}
+use Rattle.cs_tree.specs.Steps.{Given}
 use Rattle.cs_tree.specs.Falling.{Ending, Ample}
 use Rattle.cs_tree.specs.Tree.{tree}
 use Rattle.cs_tree.proofs.Count.{length-starts, entries-lower}
-use Rattle.lists.proofs.Keeping.{kept_then, kept-wider, kept-cleared, kept-onto, kept-placed, kept_clears}
 use Rattle.cs_tree.proofs.Laid.{length-laid, start-at}
 use Rattle.cs_tree.proofs.Lowering.{fronts, sums_a, sums_b}
 use Rattle.cs_tree.proofs.Promises.{length-lower}
 use Rattle.cs_pattern.specs.Analyse.{short, written, number}
 use Rattle.cs_pattern.specs.Columns.{columns}
 use Rattle.cs_pattern.specs.Promise.{Analysed}
-use Rattle.cs_pattern.specs.Steps.{Outlined, Ready}
+use Rattle.cs_pattern.specs.Steps.{Counted, Outlined, Ready}
 use Rattle.cs_pattern.proofs.Columns.{columns_fit, columns_long, given}
 use Rattle.cs_pattern.proofs.Filled.{tree-size, upper-size, zeros-front, counts_there}
 use Rattle.cs_pattern.proofs.Promising.{analysed_holds}
-use Rattle.cs_matrix.proofs.Squaring.{judged6, early_6, Prepared, unprepared}
-
--- ---- `too_short`, test by test
-module _ (n t a b c d e : ℕ) where
-  abbrev S : Bool
-  S = ltb 4194304 t || ltb a n || ltb b (n + 1) || ltb c t || ltb d (n + 1) || ltb e t
-
-  pub short_1 : 4194304 < t → true ≡ S
-  short_1 h = rw (lt-ltb 4194304 t h)
-
-  module _ (f : t ≤ 4194304) where
-    pub short_2 : a < n → true ≡ S
-    short_2 h = rw (le-ltb 4194304 t f, lt-ltb a n h)
-
-    pub short_3 : n ≤ a → b < n + 1 → true ≡ S
-    short_3 g h = rw (le-ltb 4194304 t f, le-ltb a n g, lt-ltb b (n + 1) h)
-
-    pub short_4 : n ≤ a → n + 1 ≤ b → c < t → true ≡ S
-    short_4 g i h = rw (le-ltb 4194304 t f, le-ltb a n g, le-ltb b (n + 1) i, lt-ltb c t h)
-
-    pub short_5 : n ≤ a → n + 1 ≤ b → t ≤ c → d < n + 1 → true ≡ S
-    short_5 g i j h = rw (le-ltb 4194304 t f, le-ltb a n g, le-ltb b (n + 1) i, le-ltb c t j, lt-ltb d (n + 1) h)
-
-    pub short_6 : n ≤ a → n + 1 ≤ b → t ≤ c → n + 1 ≤ d → ltb e t ≡ S
-    short_6 g i j h = rw (le-ltb 4194304 t f, le-ltb a n g, le-ltb b (n + 1) i, le-ltb c t j, le-ltb d (n + 1) h)
 
 -- ---- `fill`
 module _ {n t : ℕ} {p i : List ℕ} (v : ValidPattern (pattern n n p i)) {w1 w2 w3 : List ℕ} {out : Analysis}
@@ -229,28 +204,17 @@ module _ {nrows n : ℕ} {p i w1 w2 w3 : List ℕ} {x : List Float} {old : Scrat
       (kept_clears c ∙ ap (cleared 0 (n + 1)) w3_is ∙ cleared-again 0 (n + 1) old.w3)
       (ap (cleared none (n + 1)) x_is ∙ cleared-again none (n + 1) old.x)
 
-  module _ {t : ℕ} {w1' w2' w3' : List ℕ} (B : Outlined D n t w1 w1' w2 w2' w3 w3') where
-    pub kept1 : Kept 0 (n + 1) w1 w1'
+  module _ {o : Option ℕ} {w1' w2' w3' : List ℕ} (B : Outlined D n o w1 w1' w2 w2' w3 w3') where
+    kept1 : Kept 0 (n + 1) w1 w1'
     kept1 = rw B.tree_is (kept-onto (n + 1) w1 (tree D) (omega (arith, tree-size square_valid)) (omega (arith, tree-size square_valid, long1)))
 
-    pub kept2' : Kept 0 (n + 1) w2 w2'
+    kept2' : Kept 0 (n + 1) w2 w2'
     kept2' = kept-wider (n + 1) (omega arith) B.kept2
 
-    pub kept3' : Kept 0 (n + 1) w3 w3'
+    kept3' : Kept 0 (n + 1) w3 w3'
     kept3' = kept-wider (n + 1) (omega arith) B.kept3
 
-    -- the count, where it is not too large
-    pub size_is : t ≤ 4194304 → t ≡ entries (upper D)
-    size_is h = omega (arith, B.count)
-
-    pub lengths-front : t ≤ 4194304 → take (n + 1) w3' ≡ lengths (lower D) ++ (0 ∷ [])
-    lengths-front h = counts_there square_valid old.w3 B w3_is P.wide.in_w3 h
-
     module _ (out : Analysis) where
-      abbrev room : Bool
-      room = ltb 4194304 t || ltb (length out.tree) n || ltb (length out.up) (n + 1) || ltb (length out.ui) t || ltb (length out.lp) (n + 1) ||
-          ltb (length out.li) t
-
       abbrev E : ℕ
       E = entries (upper D)
 
@@ -268,56 +232,29 @@ module _ {nrows n : ℕ} {p i w1 w2 w3 : List ℕ} {x : List Float} {old : Scrat
       unfolding short analysed
       sizes = rw (length-laid (upper D), tree-size square_valid, up-size, lp_size, li_size)
 
-      room-is : short (analysed D) out ≡ room
-      room-is =
-          ⊎_elim
-          (λ (h : E ≤ 4194304). let e : t ≡ E = omega (arith, B.count) in rw (e, ← sizes))
-          (λ (h : 4194304 < E). rw (sizes, lt-ltb 4194304 E h, lt-ltb 4194304 t (omega (arith, B.count))))
-          (le-or-lt E 4194304)
-
       abbrev a : Pattern
       a = pattern nrows n p i
 
-      answer : {b : Bool} → b ≡ room → number a (lent out old) ≡ cond b 7 0
+      abbrev Answers : ℕ → Analysis → Scratch → Type 0
+      Answers r new s = (r ≡ number a (lent out old)) ×
+          (lent new s ≡ leaves r (needed a) (written (analysed (columns a)) out) (lent out old)) × (r ≡ 0 → Analysed a new)
+
+      answer : {b : Bool} → b ≡ short (analysed D) out → number a (lent out old) ≡ cond b 7 0
       unfolding columns
       answer {b = b} e =
           number_is a (lent out old) ∙ sym (then (judged6 a old) ((7, short (analysed (columns a)) out) ∷ []) (early_6 a old) P.none refl) ∙
-          ap (λ (c : Bool). cond c 7 0) (room-is ∙ sym e)
+          ap (λ (c : Bool). cond c 7 0) (sym e)
 
-      pub at_7 : {b : Bool} {s : Scratch} → b ≡ room → b ≡ true → s ≡ wiped (n + 1) (scratch w1' w2' w3' x)
-          → (7 ≡ number a (lent out old)) × (lent out s ≡ leaves 7 (needed a) (written (analysed (columns a)) out) (lent out old)) ×
-          (◌≡◌ {A = ℕ} 7 0 → Analysed a out)
-      at_7 e h f = (
-        sym (answer e ∙ ap (λ (c : Bool). cond c 7 0) h),
+      at_7 : true ≡ short (analysed D) out → {s : Scratch} → s ≡ wiped (n + 1) (scratch w1' w2' w3' x) → Answers 7 out s
+      at_7 e f = (
+        sym (answer e),
         late 7 (needed a) _ (lent out old) (omega arith) (omega arith) (cleared-up kept1 kept2' kept3' f ∙ ap (λ (k : ℕ). wiped k old) (sym P.need)),
         λ z. absurd (omega arith),
       )
 
-      pub ready : {b : Bool} → b ≡ room → b ≡ false → ValidPattern (pattern n n p i) × Ready D n t w1' w2' w3' out
-      ready e h =
-          let q5 = or-false (ltb 4194304 t || ltb (length out.tree) n || ltb (length out.up) (n + 1) || ltb (length out.ui) t ||
-          ltb (length out.lp) (n + 1)) _ (sym e ∙ h) in
-          let q4 = or-false (ltb 4194304 t || ltb (length out.tree) n || ltb (length out.up) (n + 1) || ltb (length out.ui) t) _ q5.0 in
-          let q3 = or-false (ltb 4194304 t || ltb (length out.tree) n || ltb (length out.up) (n + 1)) _ q4.0 in
-          let q2 = or-false (ltb 4194304 t || ltb (length out.tree) n) _ q3.0 in
-          let q1 = or-false (ltb 4194304 t) _ q2.0 in
-          let few = ltb-false _ _ q1.0 in (
-            square_valid,
-            record {
-              tree_is = rw B.tree_is (part-onto n w1 (tree D) (tree-size square_valid));
-              w1_long = omega (arith, kept1.long, long1);
-              w2_long = omega (arith, kept2'.long, long2);
-              w3_long = omega (arith, kept3'.long, long3);
-              lengths_are = lengths-front few;
-              size = size_is few;
-              few = few;
-              tree_room = ltb-false _ _ q1.1;
-              up_room = ltb-false _ _ q2.1;
-              ui_room = ltb-false _ _ q3.1;
-              lp_room = ltb-false _ _ q4.1;
-              li_room = ltb-false _ _ q5.1;
-            },
-          )
+      -- too many entries
+      pub many_7 : 4194304 < E → {s : Scratch} → s ≡ wiped (n + 1) (scratch w1' w2' w3' x) → Answers 7 out s
+      many_7 h = at_7 (rw (sizes, lt-ltb 4194304 E h))
 
       analysed-as : Analysed (pattern n n p i) (written (analysed D) out) → Analysed a (written (analysed D) out)
       unfolding columns
@@ -327,13 +264,46 @@ module _ {nrows n : ℕ} {p i w1 w2 w3 : List ℕ} {x : List Float} {old : Scrat
       unfolding columns
       same-columns = refl
 
-      pub at-end : {b : Bool} {new : Analysis} {w2f w3f : List ℕ} {s : Scratch} → b ≡ room → b ≡ false
-          → (new ≡ written (analysed D) out) × Kept 0 (n + 1) w2' w2f × Kept 0 (n + 1) w3' w3f → s ≡ wiped (n + 1) (scratch w1' w2f w3f x)
-          → (0 ≡ number a (lent out old)) × (lent new s ≡ leaves 0 (needed a) (written (analysed (columns a)) out) (lent out old)) ×
-          (◌≡◌ {A = ℕ} 0 0 → Analysed a new)
-      at-end e h g f = (
-        sym (answer e ∙ ap (λ (c : Bool). cond c 7 0) h),
-        done (needed a) _ (lent out old) (g.0 ∙ sym same-columns) (cleared-up kept1 (kept_then kept2' g.1) (kept_then kept3' g.2) f ∙
-            ap (λ (k : ℕ). wiped k old) (sym P.need)),
-        λ z. rw g.0 (analysed-as (analysed_holds square_valid out (omega (arith, (ready e h).1.size, (ready e h).1.few)))),
-      )
+      -- t entries, and the outputs are long enough or not
+      module _ {t : ℕ} (C : Counted (upper D) w3 w3' t) {b : Bool} (e : b ≡ (ltb (length out.tree) n || ltb (length out.up) (n + 1) ||
+          ltb (length out.ui) t || ltb (length out.lp) (n + 1) || ltb (length out.li) t))
+        where
+          short-is : b ≡ short (analysed D) out
+          short-is = e ∙ (rw (sizes, ← C.size, le-ltb 4194304 t C.few))
+
+          pub short_7 : b ≡ true → {s : Scratch} → s ≡ wiped (n + 1) (scratch w1' w2' w3' x) → Answers 7 out s
+          short_7 h = at_7 (sym h ∙ short-is)
+
+          pub ready : b ≡ false → ValidPattern (pattern n n p i) × Ready D n t w1' w2' w3' out
+          ready h =
+              let q5 = or-false (ltb (length out.tree) n || ltb (length out.up) (n + 1) || ltb (length out.ui) t || ltb (length out.lp) (n + 1)) _
+              (sym e ∙ h) in
+              let q4 = or-false (ltb (length out.tree) n || ltb (length out.up) (n + 1) || ltb (length out.ui) t) _ q5.0 in
+              let q3 = or-false (ltb (length out.tree) n || ltb (length out.up) (n + 1)) _ q4.0 in
+              let q2 = or-false (ltb (length out.tree) n) _ q3.0 in (
+                square_valid,
+                record {
+                  tree_is = rw B.tree_is (part-onto n w1 (tree D) (tree-size square_valid));
+                  w1_long = omega (arith, kept1.long, long1);
+                  w2_long = omega (arith, kept2'.long, long2);
+                  w3_long = omega (arith, kept3'.long, long3);
+                  lengths_are = counts_there square_valid old.w3 C w3_is P.wide.in_w3;
+                  size = C.size;
+                  few = C.few;
+                  tree_room = ltb-false _ _ q2.0;
+                  up_room = ltb-false _ _ q2.1;
+                  ui_room = ltb-false _ _ q3.1;
+                  lp_room = ltb-false _ _ q4.1;
+                  li_room = ltb-false _ _ q5.1;
+                },
+              )
+
+          pub at-end : {new : Analysis} {w2f w3f : List ℕ} → b ≡ false
+              → (new ≡ written (analysed D) out) × Kept 0 (n + 1) w2' w2f × Kept 0 (n + 1) w3' w3f → {s : Scratch}
+              → s ≡ wiped (n + 1) (scratch w1' w2f w3f x) → Answers 0 new s
+          at-end h g f = (
+            sym (answer short-is ∙ ap (λ (c : Bool). cond c 7 0) h),
+            done (needed a) _ (lent out old) (g.0 ∙ sym same-columns) (cleared-up kept1 (kept_then kept2' g.1) (kept_then kept3' g.2) f ∙
+                ap (λ (k : ℕ). wiped k old) (sym P.need)),
+            λ z. rw g.0 (analysed-as (analysed_holds square_valid out (omega (arith, C.size, C.few)))),
+          )

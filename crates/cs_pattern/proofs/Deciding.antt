@@ -1,18 +1,19 @@
--- What `read_upper` tells, and what `judge_lower` and `decide` make of it: each step, and each way out. Assumes nothing.
-use Rattle.std.proofs.Common.{◌≡◌, ℕ, ◌+◌, ◌<◌, ◌≤◌, Bool, true, false, not, ◌&&◌, ltb, List, [], ◌∷◌, length, get_or, sym, ap, ◌∙◌, true≢false}
-use Rattle.std.proofs.Common.{arith, take_all, le-ltb, lt-ltb}
+-- What `read_upper` tells, and what `decide` makes of it: each step, and each way out. Assumes nothing.
+use Rattle.std.proofs.Common.{◌≡◌, ℕ, ◌+◌, ◌<◌, ◌≤◌, Bool, true, false, not, ◌&&◌, ltb, Option, List, [], ◌∷◌, length, get_or, sym, ap, ◌∙◌}
+use Rattle.std.proofs.Common.{true≢false, arith, take_all, le-ltb, lt-ltb}
 use mathlib.Core.List.{flatten}
 use Rattle.lists.specs.Calls.{lowest, cleared}
 use Rattle.lists.specs.Parts.{part, placed}
-use Rattle.lists.specs.Keeping.{Kept}
-use Rattle.lists.proofs.Bools.{and-true, not-both}
+use Rattle.lists.specs.Keeping.{Kept, Zeros}
+use Rattle.lists.proofs.Bools.{and-true, not-both, alike}
 use Rattle.lists.proofs.Clearing.{length-cleared}
 use Rattle.lists.proofs.Keeping.{kept_then, kept-wider, kept-cleared, kept-onto, kept-placed}
 use Rattle.lists.proofs.Laying.{part_long}
+use Rattle.lists.specs.Order.{starts_with}
+use Rattle.lists.proofs.Matching.{starts_places, starts-at, starts_long}
 use Rattle.cs_matrix.specs.Matrix.{pattern, ValidPattern}
 use Rattle.cs_tree.specs.Backward.{Holds}
-use Rattle.cs_tree.specs.Pattern.{Analysis, analysis, analysed, upper, lower, transposed, starts, entries}
-use Rattle.lists.specs.Keeping.{Zeros}
+use Rattle.cs_tree.specs.Pattern.{Analysis, analysed, upper, lower, transposed, starts, entries}
 use Rattle.cs_tree.specs.Steps.{Given, Whole}
 use Rattle.cs_tree.specs.Tree.{tree}
 use Rattle.cs_tree.proofs.Count.{length-starts}
@@ -20,13 +21,10 @@ use Rattle.cs_tree.proofs.Laid.{length-laid, start-at}
 use Rattle.cs_tree.proofs.Laws.{fill_upper}
 use Rattle.cs_tree.proofs.Promises.{promised, filled}
 use Rattle.cs_pattern.specs.Columns.{columns}
-use Rattle.lists.specs.Order.{starts_with}
 use Rattle.cs_pattern.specs.Compare.{same, tight}
-use Rattle.cs_pattern.specs.Steps.{Outlined, Known}
+use Rattle.cs_pattern.specs.Steps.{Counted, Outlined, Known}
 use Rattle.cs_pattern.proofs.Columns.{columns_fit, columns_long}
 use Rattle.cs_pattern.proofs.Filled.{tree-size, upper-size, tree-part, outline_asks}
-use Rattle.lists.proofs.Bools.{alike}
-use Rattle.lists.proofs.Matching.{starts_places, starts-at, starts_long}
 
 -- ---- what the slices hold, as records and as tests
 module _ {n : ℕ} {p i : List ℕ} (v : ValidPattern (pattern n n p i)) (up ui : List ℕ) where
@@ -92,9 +90,6 @@ module _ {n : ℕ} {p i : List ℕ} (v : ValidPattern (pattern n n p i)) (tr up 
       tree_is : starts_with (tree C) tr ≡ r
       tree_is = ap (λ (y : List ℕ). starts_with y tr) (sym (tree-part v w1 e)) ∙ sym s
 
-      pub tree_untold : r ≡ false → (false ≡ true → Told) × (Told → false ≡ true) × Kept 0 n w1 (placed 0 n w1 t) × Kept 0 n w2 (placed 0 n w2 a)
-      tree_untold h = untold (λ d. not-both _ d.tree_same (tree_is ∙ h)) kept_1 kept_2
-
       module _ {w2b : List ℕ} (g : w2b ≡ cleared 0 n (placed 0 n w2 a)) where
         pub told : {q : Bool} (b : List ℕ) → r ≡ true → length b ≡ length (part 0 n w2b) → get_or up n 0 ≤ 4194304 → (q ≡ true → Holds C up ui) ×
             (Holds C up ui → q ≡ true)
@@ -108,26 +103,9 @@ module _ {n : ℕ} {p i : List ℕ} (v : ValidPattern (pattern n n p i)) (tr up 
             )
 
     pub read_asks : {w2b : List ℕ} → w2b ≡ cleared 0 n (placed 0 n w2 a) → n < length up
-        → ValidPattern (pattern n n p i) × Given C (part 0 n (placed 0 n w1 t)) × (length (part 0 n w2b) ≡ n) × Zeros (part 0 n w2b) × (n < length up)
+        → ValidPattern (pattern n n p i) × Given C (part 0 n (placed 0 n w1 t)) × (length (part 0 n w2b) ≡ n) × Zeros (part 0 n w2b) ×
+        (n < length up)
     read_asks g u = let b = outline_asks v w1 w2 w1 a l1 l2 l1 e f g in (b.0, b.1, b.2, b.3, u)
-
--- ---- `judge_lower`
-module _ {n t : ℕ} {up ui : List ℕ} (room : ℕ) (lp li : List ℕ) where
-  abbrev L : Whole n t up ui → Bool
-  L w = starts_with (starts 0 (transposed w.us)) lp && starts_with (flatten (transposed w.us)) li
-
-  abbrev JL : Whole n t up ui → ℕ
-  JL w = lowest ((7, ltb room t) ∷ (8, not (L w)) ∷ [])
-
-  pub lower-tight : room < t → (w : Whole n t up ui) → 7 ≡ JL w
-  lower-tight h w = rw (lt-ltb room t h)
-
-  module _ (l : t ≤ room) {q : Bool} (e : (w : Whole n t up ui) → q ≡ L w) where
-    pub lower_differs : q ≡ false → (w : Whole n t up ui) → 8 ≡ JL w
-    lower_differs z w = rw (le-ltb room t l, ← e w, z)
-
-    pub lower-none : q ≡ true → (w : Whole n t up ui) → 0 ≡ JL w
-    lower-none z w = rw (le-ltb room t l, ← e w, z)
 
 -- ---- `decide`
 module _ {n : ℕ} {p i : List ℕ} (v : ValidPattern (pattern n n p i)) (w1 w2 w3 : List ℕ) (l1 : n + 1 ≤ length w1) (l2 : n + 1 ≤ length w2)
@@ -139,11 +117,11 @@ module _ {n : ℕ} {p i : List ℕ} (v : ValidPattern (pattern n n p i)) (w1 w2 
   number room held = lowest ((7, tight room (analysed D)) ∷ (8, not (same (analysed D) held)) ∷ [])
 
   -- the tree and U are held
-  module _ (room : ℕ) (tr up ui lp li : List ℕ) {t : ℕ} (e : t ≡ get_or up n 0) (T : Known D tr up ui) where
+  module _ (room : ℕ) (held : Analysis) {t : ℕ} (e : t ≡ get_or held.up n 0) (T : Known D held.tree held.up held.ui) where
     size : t ≡ entries (upper D)
-    size = e ∙ end_is v up ui T.holds
+    size = e ∙ end_is v held.up held.ui T.holds
 
-    whole : Whole n t up ui
+    whole : Whole n t held.up held.ui
     whole =
         record {
           us = upper D;
@@ -162,17 +140,17 @@ module _ {n : ℕ} {p i : List ℕ} (v : ValidPattern (pattern n n p i)) (w1 w2 
     unfolding tight analysed
     wide_is = rw (length-laid (upper D), ← size, le-ltb 4194304 t (omega (arith, size, T.few)))
 
-    same-is : same (analysed D) (analysis tr up ui lp li) ≡ (starts_with (starts 0 (lower D)) lp && starts_with (flatten (lower D)) li)
+    same-is : same (analysed D) held ≡ (starts_with (starts 0 (lower D)) held.lp && starts_with (flatten (lower D)) held.li)
     unfolding same analysed
-    same-is = rw (T.tree_same, up_same v up ui T.holds, ui_same v up ui T.holds)
+    same-is = rw (T.tree_same, up_same v held.up held.ui T.holds, ui_same v held.up held.ui T.holds)
 
-    pub lower_asks : Whole n t up ui × (n ≤ length w3)
+    pub lower_asks : Whole n t held.up held.ui × (n ≤ length w3)
     lower_asks = (whole, omega arith)
 
     pub decided : {w1a w2a w3b : List ℕ} {r : ℕ} → Kept 0 n w1 w1a → Kept 0 n w2 w2a
-        → ((w : Whole n t up ui) → r ≡ lowest ((7, ltb room t) ∷
-        (8, not (starts_with (starts 0 (transposed w.us)) lp && starts_with (flatten (transposed w.us)) li)) ∷ [])) × Kept 0 n w3 w3b
-        → (r ≡ number room (analysis tr up ui lp li)) × Kept 0 (n + 1) w1 w1a × Kept 0 (n + 1) w2 w2a × Kept 0 (n + 1) w3 w3b
+        → ((w : Whole n t held.up held.ui) → r ≡ lowest ((7, ltb room t) ∷
+        (8, not (starts_with (starts 0 (transposed w.us)) held.lp && starts_with (flatten (transposed w.us)) held.li)) ∷ [])) × Kept 0 n w3 w3b
+        → (r ≡ number room held) × Kept 0 (n + 1) w1 w1a × Kept 0 (n + 1) w2 w2a × Kept 0 (n + 1) w3 w3b
     unfolding whole lower
     decided k1 k2 g = (
       rw (wide_is, same-is) (g.0 whole),
@@ -183,13 +161,7 @@ module _ {n : ℕ} {p i : List ℕ} (v : ValidPattern (pattern n n p i)) (w1 w2 
 
   -- they are not: U's entries are counted
   module _ {w1a w2a : List ℕ} (k1 : Kept 0 n w1 w1a) (k2 : Kept 0 n w2 w2a) where
-    pub outline_asked : ValidPattern (pattern n n p i) × (n ≤ length w1a) × (n ≤ length w2a) × (n ≤ length w3)
-    outline_asked = (v, omega (arith, k1.long), omega (arith, k2.long), omega arith)
-
-    module _ (room : ℕ) (tr up ui lp li : List ℕ) {t : ℕ} {w1b w2b w3b : List ℕ} (B : Outlined D n t w1a w1b w2a w2b w3 w3b) where
-      abbrev held : Analysis
-      held = analysis tr up ui lp li
-
+    module _ (room : ℕ) (held : Analysis) {t : Option ℕ} {w1b w2b w3b : List ℕ} (B : Outlined D n t w1a w1b w2a w2b w3 w3b) where
       abbrev Answers : ℕ → Type 0
       Answers r = (r ≡ number room held) × Kept 0 (n + 1) w1 w1b × Kept 0 (n + 1) w2 w2b × Kept 0 (n + 1) w3 w3b
 
@@ -206,34 +178,36 @@ module _ {n : ℕ} {p i : List ℕ} (v : ValidPattern (pattern n n p i)) (w1 w2 
       unfolding analysed
       ui_size = length-laid (upper D)
 
-      pub counted_many : 4194304 < t → Answers 7
+      pub counted_many : 4194304 < entries (upper D) → Answers 7
       unfolding tight
-      counted_many h = answers (rw (ui_size, lt-ltb 4194304 (entries (upper D)) (omega (arith, B.count))))
+      counted_many h = answers (rw (ui_size, lt-ltb 4194304 (entries (upper D)) h))
 
-      module _ (few : t ≤ 4194304) where
-        t_is : t ≡ entries (upper D)
-        t_is = omega (arith, B.count)
-
-        pub counted-tight : room < t → Answers 7
+      module _ {m : ℕ} (C : Counted (upper D) w3 w3b m) where
+        pub counted-tight : room < m → Answers 7
         unfolding tight
         counted-tight h = answers (rw (
           ui_size,
-          le-ltb 4194304 (entries (upper D)) (omega (arith, t_is)),
-          lt-ltb room (entries (upper D)) (omega (arith, t_is)),
+          le-ltb 4194304 (entries (upper D)) (omega (arith, C.size, C.few)),
+          lt-ltb room (entries (upper D)) (omega (arith, C.size)),
         ))
 
-        module _ (l : t ≤ room) {r : Bool} (z : r ≡ false) (d : Known D tr up ui → r ≡ true) where
+        module _ (l : m ≤ room) {r : Bool} (z : r ≡ false) (d : Known D held.tree held.up held.ui → r ≡ true) where
           wide_enough : tight room (analysed D) ≡ false
           unfolding tight
-          wide_enough = rw (ui_size, le-ltb 4194304 (entries (upper D)) (omega (arith, t_is)), le-ltb room (entries (upper D)) (omega (arith, t_is)))
+          wide_enough = rw (
+            ui_size,
+            le-ltb 4194304 (entries (upper D)) (omega (arith, C.size, C.few)),
+            le-ltb room (entries (upper D)) (omega (arith, C.size)),
+          )
 
-          known : same (analysed D) held ≡ true → Known D tr up ui
+          known : same (analysed D) held ≡ true → Known D held.tree held.up held.ui
           unfolding same analysed
           known h =
-              let a = (and-true (starts_with (tree D) tr && starts_with (starts 0 (upper D)) up && starts_with (flatten (upper D)) ui) _ h).0 in
-              let b = and-true (starts_with (tree D) tr && starts_with (starts 0 (upper D)) up) _ a in
-              let g = and-true (starts_with (tree D) tr) _ b.0 in
-              record { tree_same = g.0; holds = holds v up ui g.1 b.1; few = omega (arith, t_is) }
+              let a = (and-true (starts_with (tree D) held.tree && starts_with (starts 0 (upper D)) held.up &&
+              starts_with (flatten (upper D)) held.ui) _ h).0 in
+              let b = and-true (starts_with (tree D) held.tree && starts_with (starts 0 (upper D)) held.up) _ a in
+              let g = and-true (starts_with (tree D) held.tree) _ b.0 in
+              record { tree_same = g.0; holds = holds v held.up held.ui g.1 b.1; few = omega (arith, C.size, C.few) }
 
           differ : same (analysed D) held ≡ false
           differ = alike (same (analysed D) held) false (λ h. absurd (not-both _ (d (known h)) z)) (λ h. absurd (true≢false (sym h)))

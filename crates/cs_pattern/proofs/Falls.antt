@@ -21,17 +21,8 @@ module _ {n : ℕ} {p i par : List ℕ} (v : ValidPattern (pattern n n p i)) (g 
       one : k ≡ suc (k - 1)
       one = omega arith
 
-      before : n - k ≡ length (columns (pattern n n p i)) - k
-      before = omega (arith, columns_long v)
-
       pub falls-in : k - 1 < n
       falls-in = omega (arith, falls-within)
-
-      pub falls-pointers : k - 1 + 1 < length p
-      falls-pointers = omega (arith, falls-within, v.p_long)
-
-      pub falls-up : k - 1 < length up
-      falls-up = omega (arith, F.up_long, F.up_room, F.within)
 
       module _ {a e : ℕ} (x : a ≡ get_or p (k - 1) 0) (y : e ≡ get_or p (k - 1 + 1) 0) where
         pub falls_here : Between p (length i) (k - 1) a e
@@ -40,28 +31,33 @@ module _ {n : ℕ} {p i par : List ℕ} (v : ValidPattern (pattern n n p i)) (g 
         rows_are : part a e i ≡ get_or (columns (pattern n n p i)) (k - 1) []
         rows_are = part-is v falls-in x y
 
-        pub falls_asks : (n - k < 65535) × Walks (k - 1) par mark × Marks (n - k) mark [] × (top ≤ length ui) ×
-            (length (paths par (k - 1) (part a e i) []) ≤ top) × (rises (part a e i) ≡ true)
-        falls_asks = (
-          omega (arith, v.cols),
-          fall_walks g F (k - 1) (n - k) one before rows_are,
-          fall_fresh g F (k - 1) (n - k) one before rows_are,
-          fall_inside g F,
-          fall_room g F (k - 1) (n - k) one before rows_are,
-          part-rises v falls-in x y,
-        )
+        -- s columns came before this one
+        module _ {s : ℕ} (d : s ≡ n - k) where
+          before : s ≡ length (columns (pattern n n p i)) - k
+          before = omega (arith, columns_long v)
 
-        module _ {low : ℕ} {mark1 ui1 : List ℕ} (l : length ui1 ≡ length ui) (r : Reached (n - k) (k - 1) par (part a e i) top ui low mark1 ui1) where
-          pub falls_order : low ≤ top
-          falls_order = fall_order g F (k - 1) (n - k) one before rows_are l r
+          pub falls_asks : (s < 65535) × Walks (k - 1) par mark × Marks s mark [] × (top ≤ length ui) ×
+              (length (paths par (k - 1) (part a e i) []) ≤ top) × (rises (part a e i) ≡ true)
+          falls_asks = (
+            omega (arith, v.cols),
+            fall_walks g F (k - 1) s one before rows_are,
+            fall_fresh g F (k - 1) s one before rows_are,
+            fall_inside g F,
+            fall_room g F (k - 1) s one before rows_are,
+            part-rises v falls-in x y,
+          )
 
-          pub falls-end : top ≤ length ui1
-          falls-end = fall_end g F (k - 1) (n - k) one before rows_are l r
+          module _ {low : ℕ} {mark1 ui1 : List ℕ} (l : length ui1 ≡ length ui) (r : Reached s (k - 1) par (part a e i) top ui low mark1 ui1) where
+            pub falls_order : low ≤ top
+            falls_order = fall_order g F (k - 1) s one before rows_are l r
 
-          pub falls-last : Last (k - 1) (part low top ui1) next li
-          falls-last = fall_last g F (k - 1) (n - k) one before rows_are l r
+            pub falls-end : top ≤ length ui1
+            falls-end = fall_end g F (k - 1) s one before rows_are l r
 
-          pub falls-turn : {next1 li1 : List ℕ} → length mark1 ≡ length mark →
-              ((s : Last (k - 1) (part low top ui1) next li) → Left (k - 1) (part low top ui1) next li s next1 li1 0)
-              → Falling (columns (pattern n n p i)) up₀ ui₀ next₀ li₀ mark1 (set up (k - 1) low) ui1 next1 li1 low (k - 1)
-          falls-turn = falling_turn g F (k - 1) (n - k) one before rows_are l r
+            pub falls-last : Last (k - 1) (part low top ui1) next li
+            falls-last = fall_last g F (k - 1) s one before rows_are l r
+
+            pub falls-turn : {next1 li1 : List ℕ} → length mark1 ≡ length mark →
+                ((q : Last (k - 1) (part low top ui1) next li) → Left (k - 1) (part low top ui1) next li q next1 li1 0)
+                → Falling (columns (pattern n n p i)) up₀ ui₀ next₀ li₀ mark1 (set up (k - 1) low) ui1 next1 li1 low (k - 1)
+            falls-turn = falling_turn g F (k - 1) s one before rows_are l r

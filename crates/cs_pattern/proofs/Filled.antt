@@ -1,27 +1,26 @@
 -- The steps of src/fill.rt: what each call in them is given, and what they leave. Assumes nothing.
-use Rattle.std.proofs.Common.{◌≡◌, ℕ, ◌+◌, ◌<◌, ◌≤◌, min, List, [], ◌∷◌, ◌++◌, length, get_or, take, sym, refl, ap, ◌∙◌, arith}
+use Rattle.std.proofs.Common.{◌≡◌, ℕ, ◌+◌, ◌<◌, ◌≤◌, Option, MatchOption, List, [], ◌∷◌, ◌++◌, length, get_or, take, sym, refl, ap, ◌∙◌, arith}
 use mathlib.Core.List.{flatten}
 use Rattle.lists.specs.Calls.{cleared}
 use Rattle.lists.specs.Parts.{part, placed}
 use Rattle.lists.specs.Sums.{counted}
-use Rattle.lists.specs.Keeping.{Kept}
+use Rattle.lists.specs.Keeping.{Kept, Zeros}
 use Rattle.lists.proofs.Clearing.{length-cleared, cleared-front}
 use Rattle.lists.proofs.Laying.{placed-front, part_long, part-onto}
 use Rattle.lists.proofs.Parts.{get_d_part}
+use Rattle.lists.proofs.Keeping.{kept_then, kept-cleared, kept-placed}
 use Rattle.cs_matrix.specs.Matrix.{pattern, ValidPattern}
 use Rattle.cs_tree.specs.Pattern.{upper, lower, starts, entries}
-use Rattle.lists.specs.Keeping.{Zeros}
 use Rattle.cs_tree.specs.Steps.{Given, lengths, Whole}
 use Rattle.cs_tree.specs.Tree.{tree}
 use Rattle.cs_tree.proofs.Count.{length-starts}
 use Rattle.cs_tree.proofs.Falling.{upper-once, upper-below}
 use Rattle.cs_tree.proofs.Filling.{upper_long}
 use Rattle.cs_tree.proofs.Growing.{tree_long}
-use Rattle.lists.proofs.Keeping.{kept_then, kept-cleared, kept-placed}
 use Rattle.cs_tree.proofs.Laid.{start-at, length-laid}
 use Rattle.cs_tree.proofs.Lowering.{counted_are, rows_are}
 use Rattle.cs_pattern.specs.Columns.{columns}
-use Rattle.cs_pattern.specs.Steps.{Outlined}
+use Rattle.cs_pattern.specs.Steps.{Counted, Outlined}
 use Rattle.cs_pattern.proofs.Columns.{columns_fit, columns_long, given}
 
 pub zeros-front : (n : ℕ) (w : List ℕ) {v : List ℕ} → n ≤ length w → v ≡ cleared 0 n w → Zeros (part 0 n v)
@@ -62,8 +61,8 @@ module _ {n : ℕ} {p i : List ℕ} (v : ValidPattern (pattern n n p i)) where
         (n ≤ length w3)
     outline_asks = (v, given v (tree-part w1 e), part_long n w2b (rw kept_b.long l2), zeros-front n (placed 0 n w2 a) (rw kept_a.long l2) g, l3)
 
-    pub outlined : {r : ℕ} (b : List ℕ) {c : List ℕ} → length b ≡ length (part 0 n w2b)
-        → (r ≡ min (entries (upper C)) 4194305) × Kept 0 n w3 c × (r ≤ 4194304 → c ≡ counted (flatten (upper C)) w3)
+    pub outlined : {r : Option ℕ} (b : List ℕ) {c : List ℕ} → length b ≡ length (part 0 n w2b)
+        → MatchOption r (4194304 < entries (upper C)) (Counted (upper C) w3 c) × Kept 0 n w3 c
         → Outlined C n r w1 (placed 0 n w1 t) w2 (placed 0 n w2b b) w3 c
     outlined b x z =
         let lb : n ≤ length w2b = rw kept_b.long l2 in
@@ -72,7 +71,6 @@ module _ {n : ℕ} {p i : List ℕ} (v : ValidPattern (pattern n n p i)) where
           tree_is = ap (placed 0 n w1) e ∙ placed-front w1 (tree C) n tree-size;
           kept2 = kept_then kept_b (kept-placed n w2b b (x ∙ part_long n w2b lb) lb);
           kept3 = z.1;
-          counts_are = z.2;
         }
 
   -- the lengths of L's columns and a zero behind them, where they are not too many
@@ -91,11 +89,11 @@ module _ {n : ℕ} {p i : List ℕ} (v : ValidPattern (pattern n n p i)) where
         laid = λ q l. refl;
       }
 
-  pub counts_there : {t : ℕ} {w1 w1' w2 w2' w3 w3' : List ℕ} (d : List ℕ) → Outlined C n t w1 w1' w2 w2' w3 w3' → w3 ≡ cleared 0 (n + 1) d →
-      n + 1 ≤ length d → t ≤ 4194304 → take (n + 1) w3' ≡ lengths (lower C) ++ (0 ∷ [])
+  pub counts_there : {t : ℕ} {w3 w3' : List ℕ} (d : List ℕ) → Counted (upper C) w3 w3' t → w3 ≡ cleared 0 (n + 1) d → n + 1 ≤ length d →
+      take (n + 1) w3' ≡ lengths (lower C) ++ (0 ∷ [])
   unfolding lower whole
-  counts_there d B e l h =
-      let w = whole (omega (arith, B.count)) h in
-      ap (take (n + 1)) (B.counts_are h ∙ ap (counted (flatten (upper C))) e ∙
+  counts_there d B e l =
+      let w = whole B.size B.few in
+      ap (take (n + 1)) (B.are ∙ ap (counted (flatten (upper C))) e ∙
       ap (λ (k : List ℕ). counted k (cleared 0 (n + 1) d)) (sym (rows_are w)))
       ∙ counted_are w (n + 1) d refl l

@@ -7,13 +7,15 @@ use Rattle.lists.specs.Keys.{by_key}
 use Rattle.lists.specs.Parts.{part, placed}
 use Rattle.lists.specs.Keeping.{Kept}
 use Rattle.lists.specs.Runs.{zipped}
-use Rattle.lists.proofs.Bools.{and-true, not-both}
+use Rattle.lists.proofs.Bools.{and-true, not-both, alike}
 use Rattle.lists.proofs.Keeping.{kept_then, kept-onto, kept-placed}
 use Rattle.lists.proofs.Keys.{start-more}
 use Rattle.lists.proofs.Laying.{placed-front, part-front, part-onto, part_long}
 use Rattle.lists.proofs.Runs.{zipped-values}
 use Rattle.lists.proofs.Parts.{length_part, get_d_part, get_or-onto-front}
 use Rattle.lists.proofs.Standing.{Standing, standing_start}
+use Rattle.lists.specs.Order.{starts_with}
+use Rattle.lists.proofs.Matching.{starts-at, starts_long, starts-not, starts_places, starts-take}
 use Rattle.cs_tree.specs.Pattern.{transposed, starts, entries}
 use Rattle.cs_tree.specs.Steps.{numbers, Spread, Spreads, Whole}
 use Rattle.cs_tree.proofs.Count.{length-starts}
@@ -21,10 +23,7 @@ use Rattle.cs_tree.proofs.Laid.{length-laid, laid-transposed, transposed-start}
 use Rattle.cs_tree.proofs.Looking.{seen_starts, seen_places}
 use Rattle.cs_tree.proofs.Lowering.{items_long, named, lower_long, entries-lower}
 use Rattle.cs_tree.proofs.Spreading.{Going, going_holds, going_place, going_place-in, Columns, columns-turn, spreads_column, column_among}
-use Rattle.lists.specs.Order.{starts_with}
 use Rattle.cs_pattern.specs.Steps.{Looked}
-use Rattle.lists.proofs.Bools.{alike}
-use Rattle.lists.proofs.Matching.{starts-at, starts_long, starts-not, starts_places, starts-take}
 
 -- ---- `look_column`
 module _ {k : ℕ} {rows next₀ li next : List ℕ} {q : ℕ} (v : Going k rows next₀ li next li q) (h : q < length rows) {j t : ℕ}
@@ -41,10 +40,6 @@ module _ {k : ℕ} {rows next₀ li next : List ℕ} {q : ℕ} (v : Going k rows
             starts-not (by_key s.n s.keys s.xs) li t (rw f (going_place-in v h e s))
             (λ y. d (sym y ∙ ap (λ (a : ℕ). get_or (by_key s.n s.keys s.xs) a 0) f ∙ going_holds v h e s));
       }
-
-pub looked_agrees : {k : ℕ} {rows next₀ li next : List ℕ} → Going k rows next₀ li next li (length rows) → (s : Spread k rows next₀ li) →
-    Looked s true next li
-looked_agrees w s = record { agrees = λ z. w s; differs = λ z. absurd (true≢false z) }
 
 -- ---- `look_columns`
 module _ {n : ℕ} {up ui next₀ li next next1 : List ℕ} {k b f : ℕ} (v : Columns n up ui next₀ li next li k) (h : k < n) (x : b ≡ get_or up k 0)
@@ -160,9 +155,6 @@ module _ (n t : ℕ) (up ui lp li : List ℕ) where
         (let z : 0 + r ≡ r = omega arith in ap (λ (x : ℕ). get_or lp x 0) z))
 
     module _ (o : t ≤ length li) where
-      pub look_asks : Whole n t up ui → Whole n (length (part 0 t li)) up ui × (length (part 0 n w1) ≡ n)
-      look_asks u = (rw (part_long t li o) u, part_long n w1 long_1)
-
       module _ (ys : List ℕ) (e : length ys ≡ length (part 0 n w1)) where
         ys_long : length ys ≡ n
         ys_long = e ∙ part_long n w1 long_1

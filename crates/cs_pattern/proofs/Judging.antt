@@ -5,11 +5,11 @@ use Rattle.lists.specs.Calls.{lowest, Scratch, scratch, narrow, wiped, worked, L
 use Rattle.lists.specs.Keeping.{Kept}
 use Rattle.lists.proofs.Calls.{first, then, early}
 use Rattle.cs_matrix.specs.Matrix.{Pattern, pattern, needed, ValidPattern, judged_square}
+use Rattle.cs_matrix.proofs.Squaring.{judged6, early_6, Prepared, unprepared}
 use Rattle.cs_tree.specs.Pattern.{Analysis, analysed}
 use Rattle.cs_pattern.specs.Columns.{columns}
 use Rattle.cs_pattern.specs.Compare.{same, tight, number}
 use Rattle.cs_pattern.proofs.Analysing.{square_valid, cleared-up, long1, long2, long3}
-use Rattle.cs_matrix.proofs.Squaring.{judged6, early_6, Prepared, unprepared}
 
 number_is : (a : Pattern) (room : ℕ) (held : Analysis) (old : Scratch) → number a room held old
     ≡ lowest (judged6 a old ++ ((7, tight room (analysed (columns a))) ∷ (8, not (same (analysed (columns a)) held)) ∷ []))

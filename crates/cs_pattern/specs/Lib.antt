@@ -1,4 +1,5 @@
 pub mod Columns
+pub mod Lent
 pub mod Steps
 pub mod Analyse
 pub mod Promise

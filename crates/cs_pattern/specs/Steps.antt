@@ -1,24 +1,29 @@
 -- What both calls have worked out once their numbers 1 to 6 are judged. Assumes nothing.
-use Rattle.std.specs.Prelude.{◌≡◌, ℕ, ◌+◌, ◌≤◌, min, Bool, true, false, List, [], ◌∷◌, ◌++◌, length, take}
+use Rattle.std.specs.Prelude.{◌≡◌, ℕ, ◌+◌, ◌<◌, ◌≤◌, Bool, true, false, List, [], ◌∷◌, ◌++◌, length, take, Option, MatchOption}
 use mathlib.Core.List.{flatten}
 use Rattle.lists.specs.Calls.{onto}
 use Rattle.lists.specs.Keys.{by_key}
 use Rattle.lists.specs.Parts.{part}
 use Rattle.lists.specs.Keeping.{Kept}
 use Rattle.lists.specs.Sums.{counted}
+use Rattle.lists.specs.Order.{starts_with}
 use Rattle.cs_tree.specs.Backward.{Holds}
 use Rattle.cs_tree.specs.Pattern.{upper, lower, entries, Analysis}
 use Rattle.cs_tree.specs.Steps.{lengths, Spread, Put}
 use Rattle.cs_tree.specs.Tree.{tree}
-use Rattle.lists.specs.Order.{starts_with}
 
--- the tree, the entries of U counted, and one more at the row of each where they are not too many
-pub record Outlined (cols : List (List ℕ)) (n t : ℕ) (w1 w1' w2 w2' w3 w3' : List ℕ) : Type 0 where
-  pub count : t ≡ min (entries (upper cols)) 4194305
+-- t entries in the columns, no more than a matrix may have, and one more in w' than in w at the row of each
+pub record Counted (us : List (List ℕ)) (w w' : List ℕ) (t : ℕ) : Type 0 where
+  pub size : t ≡ entries us
+  pub few : t ≤ 4194304
+  pub are : w' ≡ counted (flatten us) w
+
+-- the tree, and the entries of U counted, or none where they are too many
+pub record Outlined (cols : List (List ℕ)) (n : ℕ) (t : Option ℕ) (w1 w1' w2 w2' w3 w3' : List ℕ) : Type 0 where
+  pub count : MatchOption t (4194304 < entries (upper cols)) (Counted (upper cols) w3 w3')
   pub tree_is : w1' ≡ onto w1 (tree cols)
   pub kept2 : Kept 0 n w2 w2'
   pub kept3 : Kept 0 n w3 w3'
-  pub counts_are : t ≤ 4194304 → w3' ≡ counted (flatten (upper cols)) w3
 
 -- what has to be known before anything is written
 pub record Ready (cols : List (List ℕ)) (n t : ℕ) (w1 w2 w3 : List ℕ) (out : Analysis) : Type 0 where

@@ -2,49 +2,37 @@
 ghost use Rattle.std.specs.Prelude.{◌≡◌, ◌+◌, ◌≤◌, ◌||◌, nat_lt};
 ghost use Rattle.lists.specs.Calls.{scratch, lent, leaves};
 ghost use Rattle.lists.specs.Keeping.{Kept};
-ghost use Rattle.cs_matrix.specs.Matrix.{pattern, needed, ValidPattern};
+ghost use Rattle.lists.specs.Refusals.{numbered};
+ghost use Rattle.cs_matrix.specs.Lent.{pattern_of};
+ghost use Rattle.cs_matrix.specs.Matrix.{needed, ValidPattern};
 ghost use Rattle.cs_tree.specs.Pattern.{analysis, analysed};
 ghost use Rattle.cs_pattern.specs.Analyse.{number, written};
 ghost use Rattle.cs_pattern.specs.Columns.{columns};
+ghost use Rattle.cs_pattern.specs.Lent.{square_of};
 ghost use Rattle.cs_pattern.specs.Promise.{Analysed};
 ghost use Rattle.cs_pattern.specs.Steps.{Ready};
 
 use crate::fill::outline;
 use crate::upper::fill_columns;
+use cs_matrix::matrix::Pattern;
 use cs_matrix::square::prepare;
-use lists::clear::{clear, clear_scratch};
+use lists::clear::{clear_scratch, fill};
+use lists::refusal::Refusal;
 use lists::sides::copy;
 use lists::sums::cumsum;
 
-// An output is shorter than needed, or U has more than 4,194,304 entries; t is their number.
+// An output is shorter than needed, where U has t entries. The outputs are lent by `&mut`, so that their lengths are what is handed on.
 fn too_short(n: usize, t: usize, tree: usize, up: usize, ui: usize, lp: usize, li: usize) -> bool
     requires { n ≤ 65535 }
-    ensures { result ≡ (nat_lt 4194304 t || nat_lt tree n || nat_lt up (n + 1) || nat_lt ui t || nat_lt lp (n + 1) || nat_lt li t) }
+    ensures { result ≡ (nat_lt tree n || nat_lt up (n + 1) || nat_lt ui t || nat_lt lp (n + 1) || nat_lt li t) }
 {
-    if t > 4194304 {
-        return true;
-    }
-    if tree < n {
-        return true;
-    }
-    if up < n + 1 {
-        return true;
-    }
-    if ui < t {
-        return true;
-    }
-    if lp < n + 1 {
-        return true;
-    }
-    li < t
+    tree < n || up < n + 1 || ui < t || lp < n + 1 || li < t
 }
 
 // Writes the analysis to outputs that have room for its t entries.
-fn fill(
-    n: usize,
+fn write(
+    a: Pattern<'_>,
     t: usize,
-    p: &[u32],
-    i: &[u32],
     tree: &mut [u32],
     up: &mut [u32],
     ui: &mut [u32],
@@ -54,38 +42,25 @@ fn fill(
     w2: &mut [u32],
     w3: &mut [u32],
 )
-    requires { ValidPattern (pattern n n p.now i.now)
-        × Ready (columns (pattern n n p.now i.now)) n t w1.now w2.old w3.old (analysis tree.old up.old ui.old lp.old li.old) }
+    requires { ValidPattern (square_of a)
+        × Ready (columns (square_of a)) a.ncols t w1.now w2.old w3.old (analysis tree.old up.old ui.old lp.old li.old) }
     ensures { let old = analysis tree.old up.old ui.old lp.old li.old in
         let new = analysis tree.new up.new ui.new lp.new li.new in
-        (new ≡ written (analysed (columns (pattern n n p.now i.now))) old)
-        × Kept 0 (n + 1) w2.old w2.new × Kept 0 (n + 1) w3.old w3.new }
+        (new ≡ written (analysed (columns (square_of a.entry))) old)
+        × Kept 0 (a.entry.ncols + 1) w2.old w2.new × Kept 0 (a.entry.ncols + 1) w3.old w3.new }
 {
-    clear(n, w2);
+    let n = a.ncols;
+    fill(0, n, w2);
     let m = n + 1;
     cumsum(&mut w3[0..m], &mut lp[0..m]);
     // summed up, each place but the first has where the column of L before it ends
-    fill_columns(
-        n,
-        t,
-        p,
-        i,
-        &w1[0..n],
-        &mut w2[0..n],
-        up,
-        ui,
-        &mut w3[1..m],
-        li,
-    );
+    fill_columns(a, t, &w1[0..n], &mut w2[0..n], up, ui, &mut w3[1..m], li);
     copy(&w1[0..n], tree);
 }
 
 // The analysis of a pattern, in tree, up, ui, lp and li.
 pub fn analyse(
-    nrows: usize,
-    ncols: usize,
-    p: &[u32],
-    i: &[u32],
+    a: Pattern<'_>,
     tree: &mut [u32],
     up: &mut [u32],
     ui: &mut [u32],
@@ -95,25 +70,25 @@ pub fn analyse(
     w2: &mut [u32],
     w3: &mut [u32],
     x: &mut [f64],
-) -> u32
-    ensures { let a = pattern nrows ncols p.now i.now in
+) -> Result<(), Refusal>
+    ensures { let a = pattern_of a.entry in
         let old = lent (analysis tree.old up.old ui.old lp.old li.old)
         (scratch w1.old w2.old w3.old x.old) in
         let new = lent (analysis tree.new up.new ui.new lp.new li.new)
         (scratch w1.new w2.new w3.new x.new) in
-        (result ≡ number a old) × (new ≡ leaves result (needed a) (written (analysed (columns a)) old.out) old) × (result ≡ 0 → Analysed a new.out) }
+        (numbered result ≡ number a old)
+        × (new ≡ leaves (numbered result) (needed a) (written (analysed (columns a)) old.out) old)
+        × (numbered result ≡ 0 → Analysed a new.out) }
 {
-    let refused = prepare(nrows, ncols, p, i, w1, w2, w3, x);
-    if refused != 0 {
-        return refused;
-    }
-    let t = outline(ncols, p, i, w1, w2, w3);
-    if too_short(ncols, t, tree.len(), up.len(), ui.len(), lp.len(), li.len()) {
-        clear_scratch(ncols + 1, w1, w2, w3, x);
-        return 7;
-    }
-    fill(ncols, t, p, i, tree, up, ui, lp, li, w1, w2, w3);
-    let need = ncols + 1;
-    clear_scratch(need, w1, w2, w3, x);
-    0
+    prepare(a, w1, w2, w3, x)?;
+    let n = a.ncols;
+    let answer = match outline(a, w1, w2, w3) {
+        Some(t) if !too_short(n, t, tree.len(), up.len(), ui.len(), lp.len(), li.len()) => {
+            write(a, t, tree, up, ui, lp, li, w1, w2, w3);
+            Ok(())
+        }
+        _ => Err(Refusal::NoRoom),
+    };
+    clear_scratch(n + 1, w1, w2, w3, x);
+    answer
 }

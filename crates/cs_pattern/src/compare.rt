@@ -4,111 +4,109 @@ ghost use Rattle.std.specs.Prelude.{◌≡◌, ◌+◌, ◌≤◌, not, ◌&&◌
 ghost use mathlib.Core.List.{flatten};
 ghost use Rattle.lists.specs.Calls.{lowest, scratch, worked};
 ghost use Rattle.lists.specs.Keeping.{Kept};
-ghost use Rattle.cs_matrix.specs.Matrix.{pattern, needed, ValidPattern};
-ghost use Rattle.cs_tree.specs.Pattern.{analysis, analysed, transposed, starts};
+ghost use Rattle.lists.specs.Refusals.{numbered};
+ghost use Rattle.lists.specs.Order.{starts_with};
+ghost use Rattle.cs_matrix.specs.Lent.{pattern_of};
+ghost use Rattle.cs_matrix.specs.Matrix.{needed, ValidPattern};
+ghost use Rattle.cs_tree.specs.Pattern.{analysed, transposed, starts};
 ghost use Rattle.cs_tree.specs.Steps.{Whole};
 ghost use Rattle.cs_pattern.specs.Columns.{columns};
-ghost use Rattle.lists.specs.Order.{starts_with};
+ghost use Rattle.cs_pattern.specs.Lent.{analysis_of, square_of};
 ghost use Rattle.cs_pattern.specs.Compare.{same as sameAs, tight, number};
 
-use crate::count::MOST;
 use crate::fill::outline;
 use crate::look::look;
 use crate::quick::read_upper;
+use cs_matrix::matrix::Pattern;
 use cs_matrix::square::prepare;
 use lists::clear::clear_scratch;
 use lists::numbers::wide;
+use lists::refusal::Refusal;
 
-// Numbers 7 and 8, or 0, where U is known to be held, with t entries.
+// A lent analysis: the tree, U and L.
+#[derive(Clone, Copy)]
+pub struct Analysis<'a> {
+    pub tree: &'a [u32],
+    pub up: &'a [u32],
+    pub ui: &'a [u32],
+    pub lp: &'a [u32],
+    pub li: &'a [u32],
+}
+
+// 7 or 8, or nothing, where U is known to be held, with t entries.
 fn judge_lower(
     n: usize,
     t: usize,
     room: usize,
-    up: &[u32],
-    ui: &[u32],
-    lp: &[u32],
-    li: &[u32],
+    given: Analysis<'_>,
     w3: &mut [u32],
-) -> u32
-    requires { Whole n t up.now ui.now × (n ≤ length w3.old) }
-    ensures { ((w : Whole n t up.now ui.now)
-        → result ≡ lowest ((7, nat_lt room t) ∷ (
+) -> Result<(), Refusal>
+    requires { Whole n t given.up.now given.ui.now × (n ≤ length w3.old) }
+    ensures { let given = analysis_of given.entry in
+        ((w : Whole n t given.up given.ui)
+        → numbered result ≡ lowest ((7, nat_lt room t) ∷ (
           8,
-          not (starts_with (starts 0 (transposed w.us)) lp.now && starts_with (flatten (transposed w.us)) li.now),
+          not (starts_with (starts 0 (transposed w.us)) given.lp && starts_with (flatten (transposed w.us)) given.li),
         ) ∷ []))
         × Kept 0 n w3.old w3.new }
 {
     if room < t {
-        return 7;
+        return Err(Refusal::NoRoom);
     }
-    if !look(n, t, up, ui, lp, li, w3) {
-        return 8;
+    if !look(n, t, given, w3) {
+        return Err(Refusal::WrongAnalysis);
     }
-    0
+    Ok(())
 }
 
-// Numbers 7 and 8, or 0.
+// 7 or 8, or nothing.
 fn decide(
-    n: usize,
+    a: Pattern<'_>,
     room: usize,
-    p: &[u32],
-    i: &[u32],
-    tree: &[u32],
-    up: &[u32],
-    ui: &[u32],
-    lp: &[u32],
-    li: &[u32],
+    given: Analysis<'_>,
     w1: &mut [u32],
     w2: &mut [u32],
     w3: &mut [u32],
-) -> u32
-    requires { ValidPattern (pattern n n p.now i.now) × (n + 1 ≤ length w1.old) × (n + 1 ≤ length w2.old) × (n + 1 ≤ length w3.old) }
-    ensures { let f = analysed (columns (pattern n n p.now i.now)) in
-        let given = analysis tree.now up.now ui.now lp.now li.now in
-        (result ≡ lowest ((7, tight room f) ∷ (8, not (sameAs f given)) ∷ []))
+) -> Result<(), Refusal>
+    requires { let n = a.ncols in
+        ValidPattern (square_of a) × (n + 1 ≤ length w1.old) × (n + 1 ≤ length w2.old) × (n + 1 ≤ length w3.old) }
+    ensures { let f = analysed (columns (square_of a.entry)) in
+        let given = analysis_of given.entry in
+        let n = a.entry.ncols in
+        (numbered result ≡ lowest ((7, tight room f) ∷ (8, not (sameAs f given)) ∷ []))
         × Kept 0 (n + 1) w1.old w1.new × Kept 0 (n + 1) w2.old w2.new × Kept 0 (n + 1) w3.old w3.new }
 {
-    if read_upper(n, p, i, tree, up, ui, w1, w2) {
-        return judge_lower(n, wide(up[n]), room, up, ui, lp, li, w3);
+    if read_upper(a, given, w1, w2) {
+        let n = a.ncols;
+        return judge_lower(n, wide(given.up[n]), room, given, w3);
     }
-    let t = outline(n, p, i, w1, w2, w3);
-    if t > MOST {
-        return 7;
-    }
+    let Some(t) = outline(a, w1, w2, w3) else {
+        return Err(Refusal::NoRoom);
+    };
     if room < t {
-        return 7;
+        return Err(Refusal::NoRoom);
     }
-    8
+    Err(Refusal::WrongAnalysis)
 }
 
-// The number that a lent analysis of a pattern gets, where L's values have the length room.
+// What refuses a lent analysis of a pattern first, or nothing, where L's values have the length room.
 pub fn compare(
-    nrows: usize,
-    ncols: usize,
-    p: &[u32],
-    i: &[u32],
+    a: Pattern<'_>,
     room: usize,
-    tree: &[u32],
-    up: &[u32],
-    ui: &[u32],
-    lp: &[u32],
-    li: &[u32],
+    given: Analysis<'_>,
     w1: &mut [u32],
     w2: &mut [u32],
     w3: &mut [u32],
     x: &mut [f64],
-) -> u32
-    ensures { let a = pattern nrows ncols p.now i.now in
-        let given = analysis tree.now up.now ui.now lp.now li.now in
+) -> Result<(), Refusal>
+    ensures { let a = pattern_of a.entry in
+        let given = analysis_of given.entry in
         let old = scratch w1.old w2.old w3.old x.old in
         let new = scratch w1.new w2.new w3.new x.new in
-        (result ≡ number a room given old) × (new ≡ worked result (needed a) old) }
+        (numbered result ≡ number a room given old) × (new ≡ worked (numbered result) (needed a) old) }
 {
-    let refused = prepare(nrows, ncols, p, i, w1, w2, w3, x);
-    if refused != 0 {
-        return refused;
-    }
-    let answer = decide(ncols, room, p, i, tree, up, ui, lp, li, w1, w2, w3);
-    clear_scratch(ncols + 1, w1, w2, w3, x);
+    prepare(a, w1, w2, w3, x)?;
+    let answer = decide(a, room, given, w1, w2, w3);
+    clear_scratch(a.ncols + 1, w1, w2, w3, x);
     answer
 }

@@ -1,22 +1,18 @@
 // How many entries each row of U has, that is each column of L: from each stored row of a column up the tree, with a count where an
 // index is marked. An index that is counted in column k is marked by k + 1.
-ghost use Rattle.std.specs.Prelude.{◌≡◌, ◌<◌, ◌≤◌, min, true, [], length};
-ghost use mathlib.Core.List.{flatten};
-ghost use Rattle.lists.specs.Keeping.{Kept};
+ghost use Rattle.std.specs.Prelude.{◌≡◌, ◌<◌, ◌≤◌, true, [], length, MatchOption};
+ghost use Rattle.lists.specs.Keeping.{Kept, Zeros};
 ghost use Rattle.lists.specs.Order.{rises};
-ghost use Rattle.lists.specs.Sums.{counted};
-ghost use Rattle.cs_matrix.specs.Matrix.{pattern, ValidPattern};
+ghost use Rattle.cs_matrix.specs.Matrix.{ValidPattern};
 ghost use Rattle.cs_tree.specs.Bumps.{Bumped, Tallied};
 ghost use Rattle.cs_tree.specs.Pattern.{upper, entries};
-ghost use Rattle.lists.specs.Keeping.{Zeros};
 ghost use Rattle.cs_tree.specs.Steps.{Walks, Marks, Given};
 ghost use Rattle.cs_pattern.specs.Columns.{columns};
+ghost use Rattle.cs_pattern.specs.Lent.{square_of};
+ghost use Rattle.cs_pattern.specs.Steps.{Counted};
 
+use cs_matrix::matrix::{MAX_ENTRIES, Pattern};
 use lists::numbers::wide;
-use std::num::wrapping_add_u32;
-
-// The entries that a matrix may have.
-pub const MOST: usize = 4194304;
 
 // Walks up from a row, marks what was not yet listed and counts it. The answer is how many there are.
 fn count_walk(k: u32, row: u32, par: &[u32], mark: &mut [u32], counts: &mut [u32]) -> usize
@@ -32,7 +28,7 @@ fn count_walk(k: u32, row: u32, par: &[u32], mark: &mut [u32], counts: &mut [u32
             return len;
         }
         mark[i] = stamp;
-        counts[i] = wrapping_add_u32(counts[i], 1);
+        counts[i] = counts[i].wrapping_add(1);
         len += 1;
         i = wide(par[i]);
     }
@@ -45,44 +41,38 @@ fn count_column(k: u32, rows: &[u32], par: &[u32], mark: &mut [u32], counts: &mu
     ensures { Tallied k par.now rows.now result mark.new counts.old counts.new }
 {
     let mut count = 0;
-    let mut q = 0;
-    while q < rows.len() {
-        let row = rows[q];
+    for &row in rows {
         if row > k {
             return count;
         }
         count += count_walk(k, row, par, mark, counts);
-        q += 1;
     }
     count
 }
 
-// One more in counts at the row of each entry of U. The answer is how many there are, or 4,194,305 where there are more than
-// 4,194,304; the counting stops once it has passed that.
+// One more in counts at the row of each entry of U. The answer is how many there are, or none where there are more than a matrix may
+// have; the counting stops once it has passed that.
 pub fn count_rows(
-    n: usize,
-    p: &[u32],
-    i: &[u32],
+    a: Pattern<'_>,
     par: &[u32],
     mark: &mut [u32],
     counts: &mut [u32],
-) -> usize
-    requires { ValidPattern (pattern n n p.now i.now) × Given (columns (pattern n n p.now i.now)) par.now
-        × (length mark.old ≡ n) × Zeros mark.old × (n ≤ length counts.old) }
-    ensures { let us = upper (columns (pattern n n p.now i.now)) in
-        (result ≡ min (entries us) 4194305) × Kept 0 n counts.old counts.new
-        × (result ≤ 4194304 → counts.new ≡ counted (flatten us) counts.old) }
+) -> Option<usize>
+    requires { ValidPattern (square_of a) × Given (columns (square_of a)) par.now
+        × (length mark.old ≡ a.ncols) × Zeros mark.old × (a.ncols ≤ length counts.old) }
+    ensures { let us = upper (columns (square_of a.entry)) in
+        MatchOption result (4194304 < entries us) (Counted us counts.old counts.new)
+        × Kept 0 a.entry.ncols counts.old counts.new }
 {
+    let Pattern { ncols: n, p, i, .. } = a;
     let mut total = 0;
-    let mut k = 0;
-    while k < n {
-        let a = wide(p[k]);
-        let e = wide(p[k + 1]);
-        total += count_column(k as u32, &i[a..e], par, mark, counts);
-        if total > MOST {
-            return MOST + 1;
+    for k in 0..n {
+        let start = wide(p[k]);
+        let end = wide(p[k + 1]);
+        total += count_column(k as u32, &i[start..end], par, mark, counts);
+        if total > MAX_ENTRIES {
+            return None;
         }
-        k += 1;
     }
-    total
+    Some(total)
 }

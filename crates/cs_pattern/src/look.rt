@@ -5,12 +5,13 @@ ghost use mathlib.Core.List.{flatten};
 ghost use Rattle.lists.proofs.Standing.{Standing};
 ghost use Rattle.lists.specs.Keeping.{Kept};
 ghost use Rattle.lists.specs.Keys.{by_key};
+ghost use Rattle.lists.specs.Order.{starts_with};
 ghost use Rattle.cs_tree.specs.Backward.{Stood};
 ghost use Rattle.cs_tree.specs.Pattern.{transposed, starts, entries};
 ghost use Rattle.cs_tree.specs.Steps.{Whole, Spread, Spreads, numbers};
-ghost use Rattle.lists.specs.Order.{starts_with};
 ghost use Rattle.cs_pattern.specs.Steps.{Looked};
 
+use crate::compare::Analysis;
 use lists::numbers::wide;
 use lists::order::starts_with;
 use lists::sides::copy;
@@ -21,18 +22,13 @@ fn look_column(k: u32, rows: &[u32], next: &mut [u32], li: &[u32]) -> bool
     ensures { (result ≡ true → Stood k rows.now li.now next.old next.new (length rows.now))
         × ((s : Spread k rows.now next.old li.now) → Looked s result next.new li.now) }
 {
-    let mut q = 0;
-    while q < rows.len() {
-        let j = wide(rows[q]);
+    for &row in rows {
+        let j = wide(row);
         let t = wide(next[j]);
-        if t >= li.len() {
-            return false;
-        }
-        if li[t] != k {
+        if t >= li.len() || li[t] != k {
             return false;
         }
         next[j] += 1;
-        q += 1;
     }
     true
 }
@@ -46,45 +42,27 @@ fn look_columns(n: usize, up: &[u32], ui: &[u32], next: &mut [u32], li: &[u32]) 
         × (result ≡ false → (s : Spreads n up.now ui.now next.old li.now)
         → false ≡ starts_with (by_key n (flatten s.us) (numbers 0 s.us)) li.now) }
 {
-    let mut k = 0;
-    while k < n {
+    for k in 0..n {
         let b = wide(up[k]);
         let f = wide(up[k + 1]);
         if !look_column(k as u32, &ui[b..f], next, li) {
             return false;
         }
-        k += 1;
     }
     true
 }
 
 // L, with the t entries of U, is what lp and li hold.
-pub fn look(
-    n: usize,
-    t: usize,
-    up: &[u32],
-    ui: &[u32],
-    lp: &[u32],
-    li: &[u32],
-    w: &mut [u32],
-) -> bool
-    requires { Whole n t up.now ui.now × (n ≤ length w.old) }
-    ensures { ((u : Whole n t up.now ui.now)
-        → result ≡ (starts_with (starts 0 (transposed u.us)) lp.now && starts_with (flatten (transposed u.us)) li.now))
+pub fn look(n: usize, t: usize, given: Analysis<'_>, w: &mut [u32]) -> bool
+    requires { Whole n t given.up.now given.ui.now × (n ≤ length w.old) }
+    ensures { ((u : Whole n t given.entry.up.now given.entry.ui.now)
+        → result ≡ (starts_with (starts 0 (transposed u.us)) given.entry.lp.now && starts_with (flatten (transposed u.us)) given.entry.li.now))
         × Kept 0 n w.old w.new }
 {
-    if lp.len() <= n {
-        return false;
-    }
-    if lp[0] != 0 {
-        return false;
-    }
-    if li.len() < t {
+    let Analysis { up, ui, lp, li, .. } = given;
+    if lp.len() <= n || lp[0] != 0 || li.len() < t {
         return false;
     }
     copy(&lp[0..n], w);
-    if !look_columns(n, up, ui, &mut w[0..n], &li[0..t]) {
-        return false;
-    }
-    starts_with(&lp[1..n + 1], w)
+    look_columns(n, up, ui, &mut w[0..n], &li[0..t]) && starts_with(&lp[1..=n], w)
 }

@@ -9,10 +9,8 @@ pub fn lower_column(k: u32, rows: &[u32], next: &mut [u32], li: &mut [u32])
     ensures { (s : Last k rows.now next.old li.old)
         → Left k rows.now next.old li.old s next.new li.new 0 }
 {
-    let mut q = rows.len();
-    while q > 0 {
-        q -= 1;
-        let j = wide(rows[q]);
+    for &row in rows.iter().rev() {
+        let j = wide(row);
         let t = next[j] - 1;
         li[wide(t)] = k;
         next[j] = t;

@@ -1,20 +1,21 @@
 // Whether slices hold the tree and U, told without working a column out: each way up the tree is read from its far end down to
 // its stored row.
-ghost use Rattle.std.specs.Prelude.{◌≡◌, ℕ, suc, ◌+◌, ◌^◌, ◌<◌, ◌≤◌, true, List, [], length, slice_index};
-ghost use Rattle.lists.specs.Keeping.{Kept};
+ghost use Rattle.std.specs.Prelude.{◌≡◌, ℕ, suc, ◌+◌, ◌^◌, ◌<◌, ◌≤◌, true, List, [], length, slice_index, IfSome, IsSome};
+ghost use Rattle.lists.specs.Keeping.{Kept, Zeros};
 ghost use Rattle.lists.specs.Order.{rises};
-ghost use Rattle.cs_matrix.specs.Matrix.{pattern, ValidPattern};
+ghost use Rattle.cs_matrix.specs.Matrix.{ValidPattern};
 ghost use Rattle.cs_tree.specs.Backward.{Stops, Read, Holds};
 ghost use Rattle.cs_tree.specs.Ending.{Unlisted, Ending};
 ghost use Rattle.cs_tree.specs.Pattern.{path, paths};
-ghost use Rattle.lists.specs.Keeping.{Zeros};
 ghost use Rattle.cs_tree.specs.Steps.{Walks, Marks, Given};
 ghost use Rattle.cs_pattern.specs.Columns.{columns};
+ghost use Rattle.cs_pattern.specs.Lent.{square_of};
 ghost use Rattle.cs_pattern.specs.Steps.{Known};
 
-use crate::count::MOST;
+use crate::compare::Analysis;
 use crate::tree::elimination_tree;
-use lists::clear::clear;
+use cs_matrix::matrix::{MAX_ENTRIES, Pattern};
+use lists::clear::fill;
 use lists::numbers::wide;
 use lists::order::starts_with;
 
@@ -28,61 +29,46 @@ fn stops(k: u32, c: u32, par: &[u32], mark: &[u32]) -> bool
         return false;
     }
     let above = par[wide(c)];
-    if above > k {
-        return true;
-    }
-    mark[wide(above)] == k + 1
+    above > k || mark[wide(above)] == k + 1
 }
 
-// Reads the way from a row that is not listed, where held ends with it, and marks it. The answer is where it starts, or a place
-// past the end.
-fn descend(k: u32, row: u32, par: &[u32], mark: &mut [u32], held: &[u32]) -> usize
+// Reads the way from a row that is not listed, where held ends with it, and marks it. The answer is where it starts, or none where
+// held ends with something else.
+fn descend(k: u32, row: u32, par: &[u32], mark: &mut [u32], held: &[u32]) -> Option<usize>
     requires { Walks k par.now mark.old × (length held.now < 2 ^ 32) × Unlisted k mark.old row }
-    ensures { ((older : List ℕ) → Marks k mark.old older → result ≤ length held.now
-        → Read k par.now row older held.now result mark.new)
-        × ((older : List ℕ) → Marks k mark.old older → (m : ℕ) → Ending k par.now row older held.now m → result ≤ length held.now) }
+    ensures { IfSome result (λ t. (t ≤ length held.now)
+        × ((older : List ℕ) → Marks k mark.old older → Read k par.now row older held.now t mark.new))
+        × ((older : List ℕ) → Marks k mark.old older → (m : ℕ) → Ending k par.now row older held.now m → IsSome result) }
 {
-    let mut t = held.len();
-    let none = t + 1;
-    if t == 0 {
-        return none;
-    }
-    let last = held[t - 1];
+    let &last = held.last()?;
     if !stops(k, last, par, mark) {
-        return none;
+        return None;
     }
     let mut above = par[wide(last)];
-    while t > 0 {
-        t -= 1;
+    for t in (0..held.len()).rev() {
         let b = held[t];
-        if b > k {
-            return none;
-        }
         let j = wide(b);
-        if par[j] != above {
-            return none;
-        }
-        if mark[j] == k + 1 {
-            return none;
+        if b > k || par[j] != above || mark[j] == k + 1 {
+            return None;
         }
         mark[j] = k + 1;
         if b == row {
-            return t;
+            return Some(t);
         }
         above = b;
     }
-    none
+    None
 }
 
 // The same for any row of column k: one that is listed already has no way of its own.
-fn read_row(k: u32, row: u32, par: &[u32], mark: &mut [u32], held: &[u32]) -> usize
+fn read_row(k: u32, row: u32, par: &[u32], mark: &mut [u32], held: &[u32]) -> Option<usize>
     requires { Walks k par.now mark.old × (length held.now < 2 ^ 32) × (row ≤ k) }
-    ensures { ((older : List ℕ) → Marks k mark.old older → result ≤ length held.now
-        → Read k par.now row older held.now result mark.new)
-        × ((older : List ℕ) → Marks k mark.old older → (m : ℕ) → Ending k par.now row older held.now m → result ≤ length held.now) }
+    ensures { IfSome result (λ t. (t ≤ length held.now)
+        × ((older : List ℕ) → Marks k mark.old older → Read k par.now row older held.now t mark.new))
+        × ((older : List ℕ) → Marks k mark.old older → (m : ℕ) → Ending k par.now row older held.now m → IsSome result) }
 {
     if mark[wide(row)] == k + 1 {
-        return held.len();
+        return Some(held.len());
     }
     descend(k, row, par, mark, held)
 }
@@ -94,86 +80,60 @@ fn read_column(k: u32, rows: &[u32], par: &[u32], mark: &mut [u32], held: &[u32]
         × (held.now ≡ paths par.now k rows.now [] → result ≡ true) }
 {
     let mut top = held.len();
-    let mut q = 0;
-    while q < rows.len() {
-        let row = rows[q];
+    for &row in rows {
         if row > k {
             break;
         }
-        let next = read_row(k, row, par, mark, &held[0..top]);
-        if next > top {
+        let Some(next) = read_row(k, row, par, mark, &held[0..top]) else {
             return false;
-        }
+        };
         top = next;
-        q += 1;
     }
     top == 0
 }
 
 // U is what up and ui hold.
-fn read_columns(
-    n: usize,
-    p: &[u32],
-    i: &[u32],
-    par: &[u32],
-    mark: &mut [u32],
-    up: &[u32],
-    ui: &[u32],
-) -> bool
-    requires { let cols = columns (pattern n n p.now i.now) in
-        ValidPattern (pattern n n p.now i.now) × Given cols par.now × (length mark.old ≡ n) × Zeros mark.old × (n < length up.now) }
-    ensures { let cols = columns (pattern n n p.now i.now) in
+fn read_columns(a: Pattern<'_>, par: &[u32], mark: &mut [u32], up: &[u32], ui: &[u32]) -> bool
+    requires { let cols = columns (square_of a) in
+        ValidPattern (square_of a) × Given cols par.now × (length mark.old ≡ a.ncols) × Zeros mark.old × (a.ncols < length up.now) }
+    ensures { let cols = columns (square_of a.entry) in
         (result ≡ true → Holds cols up.now ui.now) × (Holds cols up.now ui.now → result ≡ true) }
 {
+    let Pattern { ncols: n, p, i, .. } = a;
     if up[0] != 0 {
         return false;
     }
-    let mut k = 0;
-    while k < n {
-        let a = wide(p[k]);
-        let e = wide(p[k + 1]);
+    for k in 0..n {
+        let start = wide(p[k]);
+        let end = wide(p[k + 1]);
         let b = wide(up[k]);
         let f = wide(up[k + 1]);
-        if f < b {
+        let Some(held) = ui.get(b..f) else {
+            return false;
+        };
+        if !read_column(k as u32, &i[start..end], par, mark, held) {
             return false;
         }
-        if ui.len() < f {
-            return false;
-        }
-        if !read_column(k as u32, &i[a..e], par, mark, &ui[b..f]) {
-            return false;
-        }
-        k += 1;
     }
     true
 }
 
-// The tree and U are those held, and U has no more than 4,194,304 entries.
-pub fn read_upper(
-    n: usize,
-    p: &[u32],
-    i: &[u32],
-    tree: &[u32],
-    up: &[u32],
-    ui: &[u32],
-    w1: &mut [u32],
-    w2: &mut [u32],
-) -> bool
-    requires { ValidPattern (pattern n n p.now i.now) × (n ≤ length w1.old) × (n ≤ length w2.old) }
-    ensures { let cols = columns (pattern n n p.now i.now) in
-        (result ≡ true → Known cols tree.now up.now ui.now) × (Known cols tree.now up.now ui.now → result ≡ true)
-        × Kept 0 n w1.old w1.new × Kept 0 n w2.old w2.new }
+// The tree and U are those held, and U has no more entries than a matrix may have.
+pub fn read_upper(a: Pattern<'_>, given: Analysis<'_>, w1: &mut [u32], w2: &mut [u32]) -> bool
+    requires { ValidPattern (square_of a) × (a.ncols ≤ length w1.old) × (a.ncols ≤ length w2.old) }
+    ensures { let known = Known (columns (square_of a.entry)) given.entry.tree.now given.entry.up.now given.entry.ui.now in
+        (result ≡ true → known) × (known → result ≡ true)
+        × Kept 0 a.entry.ncols w1.old w1.new × Kept 0 a.entry.ncols w2.old w2.new }
 {
-    if up.len() <= n {
+    let n = a.ncols;
+    let Analysis { tree, up, ui, .. } = given;
+    if up.len() <= n || wide(up[n]) > MAX_ENTRIES {
         return false;
     }
-    if wide(up[n]) > MOST {
-        return false;
-    }
-    elimination_tree(n, p, i, &mut w1[0..n], &mut w2[0..n]);
+    elimination_tree(a, &mut w1[0..n], &mut w2[0..n]);
     if !starts_with(&w1[0..n], tree) {
         return false;
     }
-    clear(n, w2);
-    read_columns(n, p, i, &w1[0..n], &mut w2[0..n], up, ui)
+    fill(0, n, w2);
+    read_columns(a, &w1[0..n], &mut w2[0..n], up, ui)
 }

@@ -37,14 +37,7 @@ fn shift(len: usize, top: usize, out: &mut [u32]) -> usize
     ensures { (result + len ≡ top) × (drop result out.new ≡ take len out.old ++ drop top out.old) }
 {
     let low = top - len;
-    if low == 0 {
-        return low;
-    }
-    let mut t = len;
-    while t > 0 {
-        t -= 1;
-        out[low + t] = out[t];
-    }
+    out.copy_within(..len, low);
     low
 }
 
@@ -64,15 +57,12 @@ pub fn lay(
     ensures { Reached s k par.now rows.now end out.old result mark.new out.new }
 {
     let mut top = end;
-    let mut q = 0;
-    while q < rows.len() {
-        let row = rows[q];
+    for &row in rows {
         if row > k {
             return top;
         }
         let len = trace(k, s, row, par, mark, &mut out[0..top]);
         top = shift(len, top, out);
-        q += 1;
     }
     top
 }

@@ -1,15 +1,18 @@
 // The elimination tree, by climbs along the noted ancestors.
 ghost use Rattle.std.specs.Prelude.{◌≡◌, true, length};
 ghost use Rattle.lists.specs.Order.{rises};
-ghost use Rattle.cs_matrix.specs.Matrix.{pattern, ValidPattern};
+ghost use Rattle.cs_matrix.specs.Matrix.{ValidPattern};
 ghost use Rattle.cs_tree.specs.Steps.{Climbs};
 ghost use Rattle.cs_tree.specs.Tree.{forest, climbs, tree};
 ghost use Rattle.cs_pattern.specs.Columns.{columns};
+ghost use Rattle.cs_pattern.specs.Lent.{square_of};
 
+use cs_matrix::matrix::Pattern;
 use lists::clear::fill;
 use lists::numbers::wide;
 
-const ROOT: u32 = 4294967295;
+// In place of a parent, in the tree that callers are given.
+const ROOT: u32 = u32::MAX;
 
 // Column k's part in the tree. The rows rise, so that the first that is not below k ends it.
 fn tree_column(k: u32, rows: &[u32], par: &mut [u32], anc: &mut [u32])
@@ -17,8 +20,8 @@ fn tree_column(k: u32, rows: &[u32], par: &mut [u32], anc: &mut [u32])
     ensures { forest par.new anc.new ≡ climbs k rows.now (forest par.old anc.old) }
 {
     let top = wide(k);
-    for q in 0..rows.len() {
-        let mut i = wide(rows[q]);
+    for &row in rows {
+        let mut i = wide(row);
         if i >= top {
             return;
         }
@@ -34,16 +37,17 @@ fn tree_column(k: u32, rows: &[u32], par: &mut [u32], anc: &mut [u32])
     }
 }
 
-// The tree of a pattern with n columns, in par.
-pub fn elimination_tree(n: usize, p: &[u32], i: &[u32], par: &mut [u32], anc: &mut [u32])
-    requires { ValidPattern (pattern n n p.now i.now) × (length par.old ≡ n) × (length anc.old ≡ n) }
-    ensures { par.new ≡ tree (columns (pattern n n p.now i.now)) }
+// The tree of a square pattern, in par.
+pub fn elimination_tree(a: Pattern<'_>, par: &mut [u32], anc: &mut [u32])
+    requires { ValidPattern (square_of a) × (length par.old ≡ a.ncols) × (length anc.old ≡ a.ncols) }
+    ensures { par.new ≡ tree (columns (square_of a.entry)) }
 {
+    let Pattern { ncols: n, p, i, .. } = a;
     fill(ROOT, n, par);
     fill(ROOT, n, anc);
     for k in 0..n {
-        let a = wide(p[k]);
-        let e = wide(p[k + 1]);
-        tree_column(k as u32, &i[a..e], par, anc);
+        let start = wide(p[k]);
+        let end = wide(p[k + 1]);
+        tree_column(k as u32, &i[start..end], par, anc);
     }
 }

@@ -12,15 +12,27 @@ use Rattle.lists.specs.Order.{rises}
 use Rattle.lists.specs.Parts.{part}
 use Rattle.lists.proofs.Folds.{Over, over-start, over-turn, over-end}
 use Rattle.lists.proofs.Parts.{part-below, length_part}
-use Rattle.cs_matrix.specs.Matrix.{Matrix, matrix}
+use Rattle.cs_matrix.specs.Matrix.{Matrix}
 use Rattle.cs_matrix.proofs.Pointers.{Between, between, column-is}
 use Rattle.cs_product.specs.Product.{add_column}
 use Rattle.cs_product.specs.Steps.{Plain}
 
 -- ---- `accumulate_plain`
-module _ (nrows ncols : ℕ) (p i : List ℕ) (v : List Float) (rows : List ℕ) (vals : List Float) where
-  abbrev a : Matrix
-  a = matrix nrows ncols p i v
+module _ (a : Matrix) (rows : List ℕ) (vals : List Float) where
+  abbrev nrows : ℕ
+  nrows = a.pattern.nrows
+
+  abbrev ncols : ℕ
+  ncols = a.pattern.ncols
+
+  abbrev p : List ℕ
+  p = a.pattern.p
+
+  abbrev i : List ℕ
+  i = a.pattern.i
+
+  abbrev v : List Float
+  v = a.v
 
   pub record Adding-up (x₀ x : List Float) (k : ℕ) : Type 0 where
     pub ask : Plain a rows vals x₀

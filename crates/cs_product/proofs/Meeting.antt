@@ -21,7 +21,7 @@ use Rattle.lists.proofs.Bools.{eq-or-ne, not-both, or-none, or-false}
 use Rattle.lists.proofs.Chosen.{chosen-within}
 use Rattle.lists.proofs.Folds.{Over, over-start, over-turn, over-end}
 use Rattle.lists.proofs.Parts.{part-below, length_part}
-use Rattle.cs_matrix.specs.Matrix.{Matrix, matrix, Valid}
+use Rattle.cs_matrix.specs.Matrix.{Matrix, Valid}
 use Rattle.cs_matrix.proofs.Pointers.{Between, between, column-is}
 use Rattle.lists.proofs.Skipping.{lists_nowhere}
 use Rattle.cs_product.specs.Product.{add_column}
@@ -180,16 +180,28 @@ none_met {n} {stamp} {mark} f =
       zero = λ r g e. rw f.zeros (get_or-replicate n r none nan g);
     }
 
-module _ (nrows ncols : ℕ) (p i : List ℕ) (v : List Float) (stamp : ℕ) (rows : List ℕ) (vals : List Float) where
-  abbrev a : Matrix
-  a = matrix nrows ncols p i v
+module _ (a : Matrix) (stamp : ℕ) (rows : List ℕ) (vals : List Float) where
+  abbrev nrows : ℕ
+  nrows = a.pattern.nrows
+
+  abbrev ncols : ℕ
+  ncols = a.pattern.ncols
+
+  abbrev p : List ℕ
+  p = a.pattern.p
+
+  abbrev i : List ℕ
+  i = a.pattern.i
+
+  abbrev v : List Float
+  v = a.v
 
   pub record Accumulating (x₀ : List Float) (mark met : List ℕ) (x : List Float) (many k : ℕ) : Type 0 where
-    pub valid : Valid (matrix nrows ncols p i v)
+    pub valid : Valid a
     pub alike : length vals ≡ length rows
     pub below : (q : ℕ) → q < length rows → get_or rows q 0 < ncols
     pub met_now : Met nrows stamp mark met x many
-    pub is : Over (add_column (matrix nrows ncols p i v)) rows vals x₀ x k
+    pub is : Over (add_column a) rows vals x₀ x k
 
   pub accumulating_start : {mark met : List ℕ} {x : List Float} → Starting a stamp rows vals mark met x → Accumulating x mark met x 0 0
   accumulating_start {x = x} s = record {

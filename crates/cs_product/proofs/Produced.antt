@@ -11,31 +11,39 @@ use borrow.Author.Tests.{eqb-true}
 use Rattle.lists.specs.Calls.{lowest, none, narrow, Scratch, scratch, cleared, wiped, Lent, lent, outputs, worked, leaves}
 use Rattle.lists.specs.Choices.{chosen}
 use Rattle.lists.specs.Parts.{part, placed}
-use Rattle.lists.proofs.Bools.{not_holds, failed}
+use Rattle.lists.proofs.Bools.{not_holds, passed_over}
 use Rattle.lists.proofs.Calls.{first, then, early, kept, left_alone, left-written, wiped_each, not_narrow}
 use Rattle.lists.proofs.Clearing.{length-cleared, cleared-front, cleared-again}
 use Rattle.lists.proofs.Laying.{part_long}
 use Rattle.lists.proofs.Parts.{length_part}
 use Rattle.lists.proofs.Returning.{front-zeros, cleared-after}
 use Rattle.lists.proofs.Tables.{length-table}
-use Rattle.cs_matrix.specs.Matrix.{pattern, Matrix, matrix, Stored, stored, short, written, Valid}
+use Rattle.cs_matrix.specs.Matrix.{Matrix, Stored, stored, short, written, Valid}
 use Rattle.cs_matrix.proofs.Pointers.{Between, between, column-is, get_or-column}
 use Rattle.cs_columns.specs.Columns.{joined, with_columns, with_entries, laid, judged_two, short_for}
 use Rattle.cs_columns.proofs.Filling.{Filling, filling_start, filling_turn, filling_end, filling_at, filling_i, filling_v, room_i, room_v, room_p}
 use Rattle.cs_columns.proofs.Filling.{room-all}
 use Rattle.cs_columns.proofs.Joining.{joined-none, length_more, joined_alike, entries-within, entries_valid}
-use Rattle.cs_columns.proofs.Judging.{early_two, Passed, passed, Roomy, roomy, short_fewer, short_for_lem}
+use Rattle.cs_columns.proofs.Judging.{alone_7, early_two, Passed, passed, Roomy, roomy, short_fewer, short_for_lem}
 use Rattle.cs_product.specs.Product.{accumulated, remains, row_of, value_of, product, needed_two, number}
-use Rattle.cs_columns.specs.Columns.{Operands}
-use Rattle.cs_product.specs.Steps.{column_of, Within, Spanned, size, Fresh, Starting, Column, Begun, Ready, Clean}
+use Rattle.cs_product.specs.Steps.{column_of, Within, Spanned, size, Fresh, Starting, Column, Factors, Begun, Ready, Clean}
 use Rattle.cs_product.proofs.Spanning.{column_few}
 
-module _ (nrows ncols : ℕ) (ap ai : List ℕ) (av : List Float) (bncols : ℕ) (bp bi : List ℕ) (bv : List Float) where
-  abbrev a : Matrix
-  a = matrix nrows ncols ap ai av
+module _ (a b : Matrix) where
+  abbrev nrows : ℕ
+  nrows = a.pattern.nrows
 
-  abbrev b : Matrix
-  b = matrix ncols bncols bp bi bv
+  abbrev bncols : ℕ
+  bncols = b.pattern.ncols
+
+  abbrev bp : List ℕ
+  bp = b.pattern.p
+
+  abbrev bi : List ℕ
+  bi = b.pattern.i
+
+  abbrev bv : List Float
+  bv = b.v
 
   abbrev rows : ℕ → List ℕ
   rows j = chosen nrows (row_of a b j)
@@ -48,25 +56,25 @@ module _ (nrows ncols : ℕ) (ap ai : List ℕ) (av : List Float) (bncols : ℕ)
   size_is = refl
 
   -- ---- the parts of B that are handed on
-  module _ (second : Valid b) {j s e : ℕ} (h : j < bncols) (f : s ≡ get_or bp j 0) (g : e ≡ get_or bp (j + 1) 0) where
+  module _ (both : Factors a b) {j s e : ℕ} (h : j < bncols) (f : s ≡ get_or bp j 0) (g : e ≡ get_or bp (j + 1) 0) where
     handed : Between bp (length bi) j s e
-    handed = between second.pattern.ptrs second.pattern.p_long h f g
+    handed = between both.second.pattern.ptrs both.second.pattern.p_long h f g
 
     in_bv : e ≤ length bv
-    in_bv = omega (arith, handed.inside, second.v_long)
+    in_bv = omega (arith, handed.inside, both.second.v_long)
 
-    column-below : (q : ℕ) → q < length (part s e bi) → get_or (part s e bi) q 0 < ncols
+    column-below : (q : ℕ) → q < length (part s e bi) → get_or (part s e bi) q 0 < a.pattern.ncols
     column-below q l =
         let n = length_part s e bi handed.inside in
-        rw (column-is handed bi, get_or-column bp j bi q 0 (omega (arith, n, f, g)))
-        (second.pattern.below (get_or bp j 0 + q) (omega (arith, n, f, g, handed.inside)))
+        rw (column-is handed bi, get_or-column bp j bi q 0 (omega (arith, n, f, g)), both.inner)
+        (both.second.pattern.below (get_or bp j 0 + q) (omega (arith, n, f, g, handed.inside)))
 
-    starting : {stamp : ℕ} {mark met : List ℕ} {x : List Float} → Valid a → Fresh nrows stamp mark met x →
+    starting : {stamp : ℕ} {mark met : List ℕ} {x : List Float} → Fresh nrows stamp mark met x →
         Starting a stamp (part s e bi) (part s e bv) mark met x
-    starting v r = record {
-      valid = v;
+    starting r = record {
+      valid = both.first;
       alike = omega (arith, length_part s e bv in_bv, length_part s e bi handed.inside);
-      few = omega (arith, length_part s e bi handed.inside, handed.inside, second.pattern.entries);
+      few = omega (arith, length_part s e bi handed.inside, handed.inside, both.second.pattern.entries);
       below = column-below;
       fresh = r;
     }
@@ -96,29 +104,29 @@ module _ (nrows ncols : ℕ) (ap ai : List ℕ) (av : List Float) (bncols : ℕ)
   module _ {mark met : List ℕ} {x : List Float} {entries j : ℕ} (t : Tallying mark met x entries j) where
     module _ (h : j < bncols) {s e : ℕ} (f : s ≡ get_or bp j 0) (g : e ≡ get_or bp (j + 1) 0) where
       pub tallying_handed : Between bp (length bi) j s e
-      tallying_handed = handed t.begun.second h f g
+      tallying_handed = handed t.begun.factors h f g
 
       pub tallying_bv : e ≤ length bv
-      tallying_bv = in_bv t.begun.second h f g
+      tallying_bv = in_bv t.begun.factors h f g
 
       pub tallying_asks : Starting a (j + 1) (part s e bi) (part s e bv) mark met x
-      tallying_asks = starting t.begun.second h f g t.begun.first t.begun.fresh
+      tallying_asks = starting t.begun.factors h f g t.begun.fresh
 
       module _ {r : ℕ} (k : r ≡ length (chosen nrows (remains (column_of a (part s e bi) (part s e bv))))) where
         next : entries + r ≡ length (joined rows (j + 1))
-        next = omega (arith, t.is, k, cong length (rows_are t.begun.second h f g), length_more rows j)
+        next = omega (arith, t.is, k, cong length (rows_are t.begun.factors h f g), length_more rows j)
 
         pub tallying_small : entries + r ≤ 4294901760
         tallying_small = omega (
           arith,
           next,
-          entries-within nrows bncols (row_of a b) (value_of a b) (j + 1) t.begun.first.pattern.rows,
-          t.begun.second.pattern.cols,
+          entries-within nrows bncols (row_of a b) (value_of a b) (j + 1) t.begun.factors.first.pattern.rows,
+          t.begun.factors.second.pattern.cols,
         )
 
         pub tallying_turn : {mark' met' : List ℕ} {x' : List Float} → Fresh nrows (j + 1 + 1) mark' met' x' →
             Tallying mark' met' x' (entries + r) (j + 1)
-        tallying_turn u = record { begun = record { first = t.begun.first; second = t.begun.second; fresh = u }; within = omega arith; is = next }
+        tallying_turn u = record { begun = record { factors = t.begun.factors; fresh = u }; within = omega arith; is = next }
 
     pub tallying_done : bncols ≤ j → (entries ≡ size a b) × Fresh nrows (bncols + 1) mark met x
     tallying_done h =
@@ -128,28 +136,28 @@ module _ (nrows ncols : ℕ) (ap ai : List ℕ) (av : List Float) (bncols : ℕ)
 
   -- ---- `bound`
   pub record Bounding (most j : ℕ) : Type 0 where
-    pub ask : Operands a b
+    pub ask : Factors a b
     pub within : j ≤ bncols
     pub enough : length (joined rows j) ≤ most
     pub small : most ≤ 65535 * j
 
-  pub bounding_start : Operands a b → Bounding 0 0
+  pub bounding_start : Factors a b → Bounding 0 0
   bounding_start v = record { ask = v; within = omega arith; enough = omega (arith, cong length (joined-none rows)); small = omega arith }
 
   module _ {most j : ℕ} (t : Bounding most j) where
     module _ (h : j < bncols) {s e : ℕ} (f : s ≡ get_or bp j 0) (g : e ≡ get_or bp (j + 1) 0) where
       pub bounding_handed : Between bp (length bi) j s e
-      bounding_handed = handed t.ask.second h f g
+      bounding_handed = handed t.ask h f g
 
-      pub bounding_asks : Within (pattern nrows ncols ap ai) (part s e bi)
+      pub bounding_asks : Within a.pattern (part s e bi)
       bounding_asks =
           record {
             valid = t.ask.first.pattern;
             few = omega (arith, length_part s e bi bounding_handed.inside, bounding_handed.inside, t.ask.second.pattern.entries);
-            below = column-below t.ask.second h f g;
+            below = column-below t.ask h f g;
           }
 
-      module _ {lo hi work : ℕ} (q : Spanned (pattern nrows ncols ap ai) (part s e bi) lo hi work) {r : ℕ} (m : r ≡ min (hi - lo) work) where
+      module _ {lo hi work : ℕ} (q : Spanned a.pattern (part s e bi) lo hi work) {r : ℕ} (m : r ≡ min (hi - lo) work) where
         r_small : r ≤ 65535
         r_small = omega (arith, q.inside, t.ask.first.pattern.rows)
 
@@ -160,24 +168,24 @@ module _ (nrows ncols : ℕ) (ap ai : List ℕ) (av : List Float) (bncols : ℕ)
         bounding_turn =
             let w = column_few a q (part s e bv) (omega (
               arith,
-              length_part s e bv (in_bv t.ask.second h f g),
+              length_part s e bv (in_bv t.ask h f g),
               length_part s e bi bounding_handed.inside,
             )) in
             record {
               ask = t.ask;
               within = omega arith;
-              enough = omega (arith, w, t.enough, cong length (rows_are t.ask.second h f g), length_more rows j);
+              enough = omega (arith, w, t.enough, cong length (rows_are t.ask h f g), length_more rows j);
               small = omega (arith, r_small, t.small);
             }
 
     pub bounding_done : bncols ≤ j → size a b ≤ most
     bounding_done h = let e : j ≡ bncols = omega (arith, t.within) in let l = t.enough in rw size_is (rw e at l)
 
-  -- ---- `lacks_room`
-  module _ {mark met : List ℕ} {x : List Float} (v : Begun a b 1 mark met x) where
-    pub operands : Operands a b
-    operands = record { first = v.first; second = v.second }
+  -- ---- `check_room`
+  abbrev lacks : ℕ → ℕ → ℕ → Bool
+  lacks p i w = short_for bncols (size a b) p i w
 
+  module _ {mark met : List ℕ} {x : List Float} (v : Begun a b 1 mark met x) where
     later : Fresh nrows (bncols + 1) mark met x
     later = record {
       small = v.fresh.small;
@@ -187,13 +195,13 @@ module _ (nrows ncols : ℕ) (ap ai : List ℕ) (av : List Float) (bncols : ℕ)
       zeros = v.fresh.zeros;
     }
 
-    pub bound_fits : (p i w : ℕ) {t : Bool} {most : ℕ} → size a b ≤ most → t ≡ short_for bncols most p i w → not t ≡ true →
-        (false ≡ short_for bncols (size a b) p i w) × Fresh nrows (bncols + 1) mark met x
-    bound_fits p i w {most = most} l e h = (sym (short_fewer bncols most (size a b) p i w (failed e h) l), later)
+    pub bound_fits : (p i w : ℕ) {most : ℕ} → size a b ≤ most → false ≡ short_for bncols most p i w → (0 ≡ lowest ((7, lacks p i w) ∷ [])) ×
+        Fresh nrows (bncols + 1) mark met x
+    bound_fits p i w {most = most} l e = (rw (short_fewer bncols most (size a b) p i w (sym e) l), later)
 
   pub room-counted : (p i w : ℕ) {t : Bool} {entries : ℕ} → entries ≡ size a b → t ≡ short_for bncols entries p i w →
-      t ≡ short_for bncols (size a b) p i w
-  room-counted p i w f e = rw f at e
+      cond t 7 0 ≡ lowest ((7, lacks p i w) ∷ [])
+  room-counted p i w f e = let g = rw f at e in rw g
 
   -- ---- `fill`
   pub record Writing (op₀ oi₀ : List ℕ) (ov₀ : List Float) (mark met spare : List ℕ) (x : List Float) (op oi : List ℕ) (ov : List Float)
@@ -238,16 +246,16 @@ module _ (nrows ncols : ℕ) (ap ai : List ℕ) (av : List Float) (bncols : ℕ)
 
     module _ (h : j < bncols) {s e : ℕ} (f : s ≡ get_or bp j 0) (g : e ≡ get_or bp (j + 1) 0) where
       pub writing_handed : Between bp (length bi) j s e
-      writing_handed = handed w.begun.second h f g
+      writing_handed = handed w.begun.factors h f g
 
       pub writing_bv : e ≤ length bv
-      writing_bv = in_bv w.begun.second h f g
+      writing_bv = in_bv w.begun.factors h f g
 
       pub writing_asks : Column a (j + 1) (part s e bi) (part s e bv) at mark met spare x oi ov
       writing_asks =
-          let r = rows_are w.begun.second h f g in
+          let r = rows_are w.begun.factors h f g in
           record {
-            starting = starting w.begun.second h f g w.begun.first w.begun.fresh;
+            starting = starting w.begun.factors h f g w.begun.fresh;
             spare_long = w.spare_long;
             few = rw r (omega (arith, room-all nrows bncols rows vals w.filling h, w.few));
             in_i = rw r (room_i nrows bncols rows vals w.filling h);
@@ -261,16 +269,16 @@ module _ (nrows ncols : ℕ) (ap ai : List ℕ) (av : List Float) (bncols : ℕ)
           (chosen nrows (remains (column_of a (part s e bi) (part s e bv)))))
           → Fresh nrows (j + 1 + 1) mark' met' x' → Writing op₀ oi₀ ov₀ mark' met' spare' x' (set op j at) oi' ov' r (j + 1)
       writing_turn z k l m u =
-          let r = rows_are w.begun.second h f g in
+          let r = rows_are w.begun.factors h f g in
           record {
-            begun = record { first = w.begun.first; second = w.begun.second; fresh = u };
+            begun = record { factors = w.begun.factors; fresh = u };
             spare_long = z ∙ w.spare_long;
             few = w.few;
             filling =
                 filling_turn nrows bncols rows vals w.filling h
                 (k ∙ cong (λ (q : List ℕ). at + length q) r)
                 (l ∙ cong (laid at oi) r)
-                (m ∙ cong (laid at ov) (vals_are w.begun.second h f g));
+                (m ∙ cong (laid at ov) (vals_are w.begun.factors h f g));
           }
 
     pub writing_done : bncols ≤ j → stored (set op bncols at) oi ov ≡ written (product a b) (stored op₀ oi₀ ov₀)
@@ -303,35 +311,37 @@ module _ (nrows ncols : ℕ) (ap ai : List ℕ) (av : List Float) (bncols : ℕ)
     pub clean_begun : Begun a b 1 mark met x
     clean_begun =
         record {
-          first = c.first;
-          second = c.second;
-          fresh = fresh_of c.first.pattern.rows (rw c.mark_is (length-replicate nrows 0)) c.met_long
+          factors = c.factors;
+          fresh = fresh_of c.factors.first.pattern.rows (rw c.mark_is (length-replicate nrows 0)) c.met_long
               (λ r h. rw c.mark_is (get_or-replicate nrows r 0 0 h)) c.zeros;
         }
 
-    module _ (old : Stored) {t : Bool} (g : t ≡ short_for bncols (size a b) (length old.p) (length old.i) (length old.v)) where
+    module _ (old : Stored) {s : ℕ} (g : s ≡ lowest ((7, lacks (length old.p) (length old.i) (length old.v)) ∷ [])) where
       abbrev pub Served : ℕ → Stored → Type 0
       Served r new = (r ≡ lowest ((7, short (product a b) old) ∷ [])) × (new ≡ outputs r (written (product a b) old) old) ×
           (r ≡ 0 → Valid (product a b))
 
-      short-is : short (product a b) old ≡ t
-      short-is = short_for_lem (product a b) old bncols (size a b) p_long i_long v_long ∙ sym g
+      short-is : s ≡ lowest ((7, short (product a b) old) ∷ [])
+      short-is = g ∙ cong (λ (q : Bool). lowest ((7, q) ∷ [])) (sym (short_for_lem (product a b) old bncols (size a b) p_long i_long v_long))
 
-      pub at_7 : t ≡ true → Served 7 old
-      at_7 h = (rw (short-is, h), left_alone 7 _ old (λ q. omega arith) (λ q. omega arith), λ q. absurd (omega arith))
+      pub at_7 : (s ≡ 0 → ⊥) → Served s old
+      at_7 h = (
+        short-is,
+        left_alone s _ old h (λ q. omega (arith, short-is, q, alone_7 (short (product a b) old))),
+        λ q. absurd (h q),
+      )
 
-      module _ (h : t ≡ false) where
+      module _ (h : s ≡ 0) where
         room-is : Roomy bncols (size a b) (length old.p) (length old.i) (length old.v)
-        room-is = roomy bncols (size a b) (length old.p) (length old.i) (length old.v) (sym g ∙ h)
+        room-is = roomy bncols (size a b) (length old.p) (length old.i) (length old.v) (passed_over _ 6 0 (sym g ∙ h)).0
 
         pub ready : {stamp : ℕ} {mark₁ mark₂ met₁ spare₁ : List ℕ} {x₁ : List Float} → Fresh nrows stamp mark₁ met₁ x₁ →
             mark₂ ≡ cleared 0 nrows mark₁ → length spare₁ ≡ length spare → Ready a b mark₂ met₁ spare₁ x₁ old
         ready {mark₁ = mark₁} f k l =
             record {
               begun = record {
-                first = c.first;
-                second = c.second;
-                fresh = fresh_of c.first.pattern.rows (rw k (length-cleared 0 nrows mark₁ ∙ f.mark_long)) f.met_long
+                factors = c.factors;
+                fresh = fresh_of c.factors.first.pattern.rows (rw k (length-cleared 0 nrows mark₁ ∙ f.mark_long)) f.met_long
                     (λ r q. rw k (cleared-front 0 nrows mark₁ r q)) f.zeros;
               };
               spare_long = l ∙ c.spare_long;
@@ -342,7 +352,11 @@ module _ (nrows ncols : ℕ) (ap ai : List ℕ) (av : List Float) (bncols : ℕ)
             }
 
         pub at-end : {o : Stored} → o ≡ written (product a b) old → Served 0 o
-        at-end f = (rw (short-is, h), left-written _ old f, λ q. product_valid c.first.pattern.rows c.second.pattern.cols room-is.few)
+        at-end f = (
+          sym h ∙ short-is,
+          left-written _ old f,
+          λ q. product_valid c.factors.first.pattern.rows c.factors.second.pattern.cols room-is.few,
+        )
 
 -- ---- the scratch that a part was lent of
 module _ (n need : ℕ) (g : n ≤ need) (work : Scratch) {t : Bool} (f : t ≡ narrow need work) (h : t ≡ false) {s : Scratch} (q : s ≡ wiped need work)
@@ -396,56 +410,58 @@ late_leaves need w old t e f g = rw (e, none_early t) (λ k. lent ((rw e at f) k
     none_early true = refl
     none_early false = refl
 
-module _ (n m : ℕ) (pa ia : List ℕ) (va : List Float) (k l : ℕ) (pb ib : List ℕ) (vb : List Float) (old : Lent Stored) where
-  abbrev A : Matrix
-  A = matrix n m pa ia va
+module _ (a b : Matrix) (old : Lent Stored) where
+  abbrev n : ℕ
+  n = a.pattern.nrows
 
-  abbrev B : Matrix
-  B = matrix k l pb ib vb
+  abbrev m : ℕ
+  m = a.pattern.ncols
 
-  -- the second once it is known to have as many rows as the first has columns
-  abbrev C : Matrix
-  C = matrix m l pb ib vb
+  abbrev k : ℕ
+  k = b.pattern.nrows
+
+  abbrev l : ℕ
+  l = b.pattern.ncols
 
   abbrev pub Answer : ℕ → Lent Stored → Type 0
-  Answer r new = (r ≡ number A B old) × (new ≡ leaves r (needed_two A.pattern B.pattern) (written (product A B) old.out) old) ×
-      (r ≡ 0 → Valid (product A B))
+  Answer r new = (r ≡ number a b old) × (new ≡ leaves r (needed_two a.pattern b.pattern) (written (product a b) old.out) old) ×
+      (r ≡ 0 → Valid (product a b))
 
-  module _ {r : ℕ} (c : r ≡ lowest (judged_two A B (not (eqb m k)))) where
+  module _ {r : ℕ} (c : r ≡ lowest (judged_two a b (not (eqb m k)))) where
     pub at_check : (r ≡ 0 → ⊥) → Answer r old
     unfolding number
     at_check h =
-        let j = judged_two A B (not (eqb m k)) in
-        (first j _ c h, early j (early_two A B _) _ _ old c h, λ z. absurd (h z))
+        let j = judged_two a b (not (eqb m k)) in
+        (first j _ c h, early j (early_two a b _) _ _ old c h, λ z. absurd (h z))
 
-    module _ (z : r ≡ 0) {m1 m2 m3 : ℕ} (f1 : m1 ≡ max n m) (f2 : m2 ≡ max k l) (f3 : m3 ≡ max m1 m2) where
-      pass : Passed A B (not (eqb m k))
-      pass = passed A B (not (eqb m k)) c z
+    module _ (z : r ≡ 0) {m1 m2 m3 : ℕ} (f1 : m1 ≡ max n m) (f2 : m2 ≡ max m1 k) (f3 : m3 ≡ max m2 l) where
+      pass : Passed a b (not (eqb m k))
+      pass = passed a b (not (eqb m k)) c z
 
-      same : C ≡ B
-      same = let s = eqb-true m k (not_holds (eqb m k) pass.agree) in λ q. matrix (s q) l pb ib vb
+      both : Factors a b
+      both = record { first = pass.first; second = pass.second; inner = eqb-true m k (not_holds (eqb m k) pass.agree) }
 
       pub m_small : m3 ≤ 65535
       m_small = omega (arith, f1, f2, f3, pass.first.pattern.rows, pass.first.pattern.cols, pass.second.pattern.rows, pass.second.pattern.cols)
 
       n_in : n ≤ m3 + 1
-      n_in = omega (arith, f1, f3)
+      n_in = omega (arith, f1, f2, f3)
 
-      need_is : needed_two A.pattern B.pattern ≡ m3 + 1
+      need_is : needed_two a.pattern b.pattern ≡ m3 + 1
       unfolding needed_two
       need_is = omega (arith, f1, f2, f3)
 
       module _ {t : Bool} (ft : t ≡ narrow (m3 + 1) old.work) where
-        after_5 : lowest ((6, t) ∷ (7, short (product A B) old.out) ∷ []) ≡ number A B old
+        after_5 : lowest ((6, t) ∷ (7, short (product a b) old.out) ∷ []) ≡ number a b old
         unfolding number
-        after_5 = rw (ft, ← need_is) (then (judged_two A B (not (eqb m k)))
-            ((6, narrow (needed_two A.pattern B.pattern) old.work) ∷ (7, short (product A B) old.out) ∷ []) (early_two A B _) c z)
+        after_5 = rw (ft, ← need_is) (then (judged_two a b (not (eqb m k)))
+            ((6, narrow (needed_two a.pattern b.pattern) old.work) ∷ (7, short (product a b) old.out) ∷ []) (early_two a b _) c z)
 
         pub at_6 : t ≡ true → Answer 6 old
         at_6 h = ((rw h at after_5), kept 6 _ _ old (omega arith) (omega arith), λ q. absurd (omega arith))
 
         module _ (h : t ≡ false) {s : Scratch} (q : s ≡ wiped (m3 + 1) old.work) where
-          after_6 : lowest ((7, short (product A B) old.out) ∷ []) ≡ number A B old
+          after_6 : lowest ((7, short (product a b) old.out) ∷ []) ≡ number a b old
           after_6 = rw h at after_5
 
           pub in_w1 : n ≤ length s.w1
@@ -460,11 +476,10 @@ module _ (n m : ℕ) (pa ia : List ℕ) (va : List Float) (k l : ℕ) (pb ib : L
           pub in_x : n ≤ length s.x
           in_x = omega (arith, n_in, x_long n (m3 + 1) n_in old.work ft h q)
 
-          pub clean : Clean A C (part 0 n s.w1) (part 0 n s.w2) (part 0 n s.w3) (part 0 n s.x)
+          pub clean : Clean a b (part 0 n s.w1) (part 0 n s.w2) (part 0 n s.w3) (part 0 n s.x)
           clean =
               record {
-                first = pass.first;
-                second = rw same pass.second;
+                factors = both;
                 mark_is = rw (w1_is n (m3 + 1) n_in old.work ft h q)
                     (front-zeros 0 n (m3 + 1) old.work.w1 n_in (not_narrow (m3 + 1) old.work (sym ft ∙ h)).in_w1);
                 met_long = part_long n s.w2 in_w2;
@@ -487,13 +502,11 @@ module _ (n m : ℕ) (pa ia : List ℕ) (va : List Float) (k l : ℕ) (pb ib : L
                   e
 
               pub at_served : {u : ℕ} {new : Stored}
-                  → (u ≡ lowest ((7, short (product A C) old.out) ∷ [])) × (new ≡ outputs u (written (product A C) old.out) old.out) ×
-                  (u ≡ 0 → Valid (product A C))
+                  → (u ≡ lowest ((7, short (product a b) old.out) ∷ [])) × (new ≡ outputs u (written (product a b) old.out) old.out) ×
+                  (u ≡ 0 → Valid (product a b))
                   → Answer u (lent new s₂)
-              at_served sv =
-                  let v = rw same at sv in (
-                    v.0 ∙ after_6,
-                    rw need_is (late_leaves (m3 + 1) (written (product A B) old.out) old (short (product A B) old.out) v.0 v.1
-                        work-wiped),
-                    v.2,
-                  )
+              at_served sv = (
+                sv.0 ∙ after_6,
+                rw need_is (late_leaves (m3 + 1) (written (product a b) old.out) old (short (product a b) old.out) sv.0 sv.1 work-wiped),
+                sv.2,
+              )

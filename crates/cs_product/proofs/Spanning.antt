@@ -19,16 +19,22 @@ use Rattle.lists.proofs.Entries.{over_other}
 use Rattle.lists.proofs.Folds.{Along, along-start, along-turn, along-end}
 use Rattle.lists.proofs.HowMany.{chosen_but, chosen-between}
 use Rattle.lists.proofs.Ordering.{rises-apart}
-use Rattle.cs_matrix.specs.Matrix.{Pattern, pattern, Matrix, column}
+use Rattle.cs_matrix.specs.Matrix.{Pattern, Matrix, column}
 use Rattle.cs_matrix.proofs.Pointers.{Between, between, length-column, get_or-column}
 use Rattle.cs_product.specs.Product.{add_column, remains}
 use Rattle.cs_product.specs.Steps.{column_of, Within, work_of, Spanned}
 use Rattle.cs_product.proofs.Remaining.{dropped}
 
 -- ---- the loop of `span_of`
-module _ (nrows ncols : ℕ) (p i cols : List ℕ) where
-  abbrev a : Pattern
-  a = pattern nrows ncols p i
+module _ (a : Pattern) (cols : List ℕ) where
+  abbrev nrows : ℕ
+  nrows = a.nrows
+
+  abbrev p : List ℕ
+  p = a.p
+
+  abbrev i : List ℕ
+  i = a.i
 
   -- the rows of the k-th of the columns
   abbrev rows_at : ℕ → List ℕ
@@ -68,7 +74,7 @@ module _ (nrows ncols : ℕ) (p i cols : List ℕ) where
         }
 
     module _ (h : k < length cols) {c : ℕ} (ec : c ≡ get_or cols k 0) where
-      pub col_below : c < ncols
+      pub col_below : c < a.ncols
       col_below = omega (arith, s.ask.below k h)
 
       pub col_in_p : c + 1 < length p

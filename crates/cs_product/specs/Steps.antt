@@ -144,10 +144,15 @@ pub record Dense (a : Matrix) (rows : List ℕ) (vals : List Float) (lo hi start
   pub in_i : start + length (chosen a.pattern.nrows (remains (column_of a rows vals))) ≤ length oi
   pub in_v : start + length (chosen a.pattern.nrows (remains (column_of a rows vals))) ≤ length ov
 
--- ---- two valid matrices, and scratch for their columns
-pub record Begun (a b : Matrix) (stamp : ℕ) (mark met : List ℕ) (x : List Float) : Type 0 where
+-- ---- two valid matrices, the second with as many rows as the first has columns
+pub record Factors (a b : Matrix) : Type 0 where
   pub first : Valid a
   pub second : Valid b
+  pub inner : a.pattern.ncols ≡ b.pattern.nrows
+
+-- and scratch for their columns
+pub record Begun (a b : Matrix) (stamp : ℕ) (mark met : List ℕ) (x : List Float) : Type 0 where
+  pub factors : Factors a b
   pub fresh : Fresh a.pattern.nrows stamp mark met x
 
 -- the entries that remain
@@ -165,8 +170,7 @@ pub record Ready (a b : Matrix) (mark met spare : List ℕ) (x : List Float) (ou
 
 -- scratch as long as a column, cleared
 pub record Clean (a b : Matrix) (mark met spare : List ℕ) (x : List Float) : Type 0 where
-  pub first : Valid a
-  pub second : Valid b
+  pub factors : Factors a b
   pub mark_is : mark ≡ replicate a.pattern.nrows 0
   pub met_long : length met ≡ a.pattern.nrows
   pub spare_long : length spare ≡ a.pattern.nrows

@@ -3,10 +3,11 @@
 ghost use Rattle.std.specs.Prelude.{◌≡◌};
 ghost use Rattle.lists.specs.Entries.{plus_at};
 ghost use Rattle.lists.specs.Folds.{over};
-ghost use Rattle.cs_matrix.specs.Matrix.{matrix};
+ghost use Rattle.cs_matrix.specs.Lent.{matrix_of};
 ghost use Rattle.cs_product.specs.Product.{add_column};
 ghost use Rattle.cs_product.specs.Steps.{Met, Adding, Starting};
 
+use cs_matrix::matrix::{Matrix, Pattern};
 use lists::numbers::wide;
 
 // A column of A times β, added to x. The answer is how many rows are met now.
@@ -25,10 +26,9 @@ fn add_column(
     ensures { (x.new ≡ over (plus_at beta) rows.now vals.now x.old) × Met n stamp mark.new met.new x.new result }
 {
     let mut many = count;
-    for k in 0..rows.len() {
-        let row = rows[k];
+    for (&row, &val) in rows.iter().zip(vals) {
         let r = wide(row);
-        x[r] = x[r] + vals[k] * beta;
+        x[r] += val * beta;
         if mark[r] != stamp {
             mark[r] = stamp;
             met[many] = row;
@@ -40,11 +40,7 @@ fn add_column(
 
 // A times a column of B, in x, which is all +0.0. The answer is how many rows were met.
 pub fn accumulate(
-    nrows: usize,
-    ncols: usize,
-    p: &[u32],
-    i: &[u32],
-    v: &[f64],
+    a: Matrix<'_>,
     stamp: u32,
     rows: &[u32],
     vals: &[f64],
@@ -52,21 +48,23 @@ pub fn accumulate(
     met: &mut [u32],
     x: &mut [f64],
 ) -> usize
-    requires { Starting (matrix nrows ncols p.now i.now v.now) stamp rows.now vals.now mark.old met.old x.old }
-    ensures { (x.new ≡ over (add_column (matrix nrows ncols p.now i.now v.now)) rows.now vals.now x.old) ×
-        Met nrows stamp mark.new met.new x.new result }
+    requires { Starting (matrix_of a) stamp rows.now vals.now mark.old met.old x.old }
+    ensures { (x.new ≡ over (add_column (matrix_of a.entry)) rows.now vals.now x.old) ×
+        Met a.entry.pattern.nrows stamp mark.new met.new x.new result }
 {
+    let Matrix { pattern, v } = a;
+    let Pattern { nrows, p, i, .. } = pattern;
     let mut many = 0;
-    for k in 0..rows.len() {
-        let c = wide(rows[k]);
-        let a = wide(p[c]);
-        let e = wide(p[c + 1]);
+    for (&col, &val) in rows.iter().zip(vals) {
+        let c = wide(col);
+        let start = wide(p[c]);
+        let end = wide(p[c + 1]);
         many = add_column(
             nrows,
             stamp,
-            vals[k],
-            &i[a..e],
-            &v[a..e],
+            val,
+            &i[start..end],
+            &v[start..end],
             mark,
             met,
             x,

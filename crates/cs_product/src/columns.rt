@@ -4,7 +4,7 @@ ghost use Rattle.std.specs.Prelude.{map, ◌≡◌, ◌+◌, length, get_or, rep
 ghost use Rattle.std.specs.Float.{nan};
 ghost use Rattle.lists.specs.Calls.{none};
 ghost use Rattle.lists.specs.Choices.{chosen};
-ghost use Rattle.cs_matrix.specs.Matrix.{matrix};
+ghost use Rattle.cs_matrix.specs.Lent.{matrix_of};
 ghost use Rattle.cs_columns.specs.Columns.{laid};
 ghost use Rattle.cs_product.specs.Product.{remains};
 ghost use Rattle.cs_product.specs.Steps.{column_of, Fresh, Starting, Column, Dense};
@@ -13,16 +13,13 @@ use crate::accumulate::accumulate;
 use crate::gather::{count_remaining, gather};
 use crate::plain::accumulate_plain;
 use crate::sorting::sort;
-use crate::span::span_of;
+use crate::span::{Span, span_of};
 use crate::sweep::sweep;
+use cs_matrix::matrix::Matrix;
 
 // How many rows of the column remain.
 pub fn count_column(
-    nrows: usize,
-    ncols: usize,
-    p: &[u32],
-    i: &[u32],
-    v: &[f64],
+    a: Matrix<'_>,
     stamp: u32,
     rows: &[u32],
     vals: &[f64],
@@ -30,21 +27,17 @@ pub fn count_column(
     met: &mut [u32],
     x: &mut [f64],
 ) -> usize
-    requires { Starting (matrix nrows ncols p.now i.now v.now) stamp rows.now vals.now mark.old met.old x.old }
-    ensures { let w = column_of (matrix nrows ncols p.now i.now v.now) rows.now vals.now in
-        (result ≡ length (chosen nrows (remains w))) × Fresh nrows (stamp + 1) mark.new met.new x.new }
+    requires { Starting (matrix_of a) stamp rows.now vals.now mark.old met.old x.old }
+    ensures { let w = column_of (matrix_of a.entry) rows.now vals.now in
+        (result ≡ length (chosen a.entry.pattern.nrows (remains w))) × Fresh a.entry.pattern.nrows (stamp + 1) mark.new met.new x.new }
 {
-    let many = accumulate(nrows, ncols, p, i, v, stamp, rows, vals, mark, met, x);
-    count_remaining(nrows, &met[0..many], x)
+    let many = accumulate(a, stamp, rows, vals, mark, met, x);
+    count_remaining(a.pattern.nrows, &met[0..many], x)
 }
 
 // What remains of the column, by the rows that were met, put in order.
 fn write_listed(
-    nrows: usize,
-    ncols: usize,
-    p: &[u32],
-    i: &[u32],
-    v: &[f64],
+    a: Matrix<'_>,
     stamp: u32,
     rows: &[u32],
     vals: &[f64],
@@ -56,50 +49,41 @@ fn write_listed(
     oi: &mut [u32],
     ov: &mut [f64],
 ) -> usize
-    requires { Column (matrix nrows ncols p.now i.now v.now) stamp rows.now vals.now start mark.old met.old spare.old x.old oi.old ov.old }
-    ensures { let w = column_of (matrix nrows ncols p.now i.now v.now) rows.now vals.now in
-        let l = chosen nrows (remains w) in
+    requires { Column (matrix_of a) stamp rows.now vals.now start mark.old met.old spare.old x.old oi.old ov.old }
+    ensures { let w = column_of (matrix_of a.entry) rows.now vals.now in
+        let l = chosen a.entry.pattern.nrows (remains w) in
         (result ≡ start + length l) × (oi.new ≡ laid start oi.old l) × (ov.new ≡ laid start ov.old (map (λ j. get_or w j nan) l)) ×
-        Fresh nrows (stamp + 1) mark.new met.new x.new }
+        Fresh a.entry.pattern.nrows (stamp + 1) mark.new met.new x.new }
 {
-    let many = accumulate(nrows, ncols, p, i, v, stamp, rows, vals, mark, met, x);
-    sort(nrows, &mut met[0..many], spare);
-    gather(nrows, start, &met[0..many], x, oi, ov)
+    let many = accumulate(a, stamp, rows, vals, mark, met, x);
+    sort(a.pattern.nrows, &mut met[0..many], spare);
+    gather(a.pattern.nrows, start, &met[0..many], x, oi, ov)
 }
 
 // What remains of the column, by its span.
 fn write_dense(
-    nrows: usize,
-    ncols: usize,
-    p: &[u32],
-    i: &[u32],
-    v: &[f64],
+    a: Matrix<'_>,
     rows: &[u32],
     vals: &[f64],
-    lo: usize,
-    hi: usize,
+    span: Span,
     start: usize,
     x: &mut [f64],
     oi: &mut [u32],
     ov: &mut [f64],
 ) -> usize
-    requires { Dense (matrix nrows ncols p.now i.now v.now) rows.now vals.now lo hi start x.old oi.old ov.old }
-    ensures { let w = column_of (matrix nrows ncols p.now i.now v.now) rows.now vals.now in
-        let l = chosen nrows (remains w) in
+    requires { Dense (matrix_of a) rows.now vals.now span.lo span.hi start x.old oi.old ov.old }
+    ensures { let w = column_of (matrix_of a.entry) rows.now vals.now in
+        let l = chosen a.entry.pattern.nrows (remains w) in
         (result ≡ start + length l) × (oi.new ≡ laid start oi.old l) × (ov.new ≡ laid start ov.old (map (λ j. get_or w j nan) l)) ×
-        (x.new ≡ replicate nrows none) }
+        (x.new ≡ replicate a.entry.pattern.nrows none) }
 {
-    accumulate_plain(nrows, ncols, p, i, v, rows, vals, x);
-    sweep(nrows, lo, hi, start, x, oi, ov)
+    accumulate_plain(a, rows, vals, x);
+    sweep(a.pattern.nrows, span.lo, span.hi, start, x, oi, ov)
 }
 
 // The rows of the column that remain and their values, written from `start` on. The answer is the place behind them.
 pub fn write_column(
-    nrows: usize,
-    ncols: usize,
-    p: &[u32],
-    i: &[u32],
-    v: &[f64],
+    a: Matrix<'_>,
     stamp: u32,
     rows: &[u32],
     vals: &[f64],
@@ -111,19 +95,15 @@ pub fn write_column(
     oi: &mut [u32],
     ov: &mut [f64],
 ) -> usize
-    requires { Column (matrix nrows ncols p.now i.now v.now) stamp rows.now vals.now start mark.old met.old spare.old x.old oi.old ov.old }
-    ensures { let w = column_of (matrix nrows ncols p.now i.now v.now) rows.now vals.now in
-        let l = chosen nrows (remains w) in
+    requires { Column (matrix_of a) stamp rows.now vals.now start mark.old met.old spare.old x.old oi.old ov.old }
+    ensures { let w = column_of (matrix_of a.entry) rows.now vals.now in
+        let l = chosen a.entry.pattern.nrows (remains w) in
         (result ≡ start + length l) × (oi.new ≡ laid start oi.old l) × (ov.new ≡ laid start ov.old (map (λ j. get_or w j nan) l)) ×
-        Fresh nrows (stamp + 1) mark.new met.new x.new }
+        Fresh a.entry.pattern.nrows (stamp + 1) mark.new met.new x.new }
 {
-    let s = span_of(nrows, ncols, p, i, rows);
-    if s.hi - s.lo <= 2 * s.work {
-        return write_dense(
-            nrows, ncols, p, i, v, rows, vals, s.lo, s.hi, start, x, oi, ov,
-        );
+    let span = span_of(a.pattern, rows);
+    if span.hi - span.lo <= 2 * span.work {
+        return write_dense(a, rows, vals, span, start, x, oi, ov);
     }
-    write_listed(
-        nrows, ncols, p, i, v, stamp, rows, vals, start, mark, met, spare, x, oi, ov,
-    )
+    write_listed(a, stamp, rows, vals, start, mark, met, spare, x, oi, ov)
 }

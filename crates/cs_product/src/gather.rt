@@ -15,8 +15,8 @@ pub fn count_remaining(n: usize, rows: &[u32], x: &mut [f64]) -> usize
     ensures { (result ≡ length (keep (remains x.old) rows.now)) × (x.new ≡ replicate n none) }
 {
     let mut count = 0;
-    for k in 0..rows.len() {
-        let r = wide(rows[k]);
+    for &row in rows {
+        let r = wide(row);
         if x[r] != 0.0 {
             count += 1;
         }
@@ -40,8 +40,7 @@ pub fn gather(
         (x.new ≡ replicate n none) }
 {
     let mut at = start;
-    for k in 0..rows.len() {
-        let row = rows[k];
+    for &row in rows {
         let r = wide(row);
         if x[r] != 0.0 {
             oi[at] = row;

@@ -3,22 +3,24 @@ ghost use Rattle.std.specs.Prelude.{true, ◌≡◌, length};
 ghost use Rattle.lists.specs.Entries.{Entries, plus_at};
 ghost use Rattle.lists.specs.Folds.{over};
 ghost use Rattle.lists.specs.Order.{rises};
-ghost use Rattle.cs_matrix.specs.Matrix.{matrix};
+ghost use Rattle.cs_matrix.specs.Lent.{matrix_of};
 ghost use Rattle.cs_product.specs.Product.{add_column};
 ghost use Rattle.cs_product.specs.Steps.{Plain};
 
+use cs_matrix::matrix::{Matrix, Pattern};
 use lists::numbers::wide;
 use lists::sides::add_times;
 use lists::tight::tight;
 
-// A column of A times β, added to x row by row.
+// A column of A times β, added to x row by row. The left factoring has the same step and the next: each asks something of its slices, so
+// that it cannot be public in a crate below both.
 fn add_rows(beta: f64, rows: &[u32], vals: &[f64], x: &mut [f64])
     requires { Entries (length x.old) rows.now vals.now }
     ensures { x.new ≡ over (plus_at beta) rows.now vals.now x.old }
 {
-    for k in 0..rows.len() {
-        let r = wide(rows[k]);
-        x[r] = x[r] + vals[k] * beta;
+    for (&row, &val) in rows.iter().zip(vals) {
+        let r = wide(row);
+        x[r] += val * beta;
     }
 }
 
@@ -27,34 +29,25 @@ fn add_plain(beta: f64, rows: &[u32], vals: &[f64], x: &mut [f64])
     requires { Entries (length x.old) rows.now vals.now × (rises rows.now ≡ true) }
     ensures { x.new ≡ over (plus_at beta) rows.now vals.now x.old }
 {
-    if rows.len() > 7 {
-        if tight(rows) {
-            let first = wide(rows[0]);
-            add_times(vals, beta, &mut x[first..first + vals.len()]);
-            return;
-        }
+    if rows.len() > 7 && tight(rows) {
+        let first = wide(rows[0]);
+        add_times(vals, beta, &mut x[first..first + vals.len()]);
+        return;
     }
     add_rows(beta, rows, vals, x);
 }
 
 // A times a column of B, added to x.
-pub fn accumulate_plain(
-    nrows: usize,
-    ncols: usize,
-    p: &[u32],
-    i: &[u32],
-    v: &[f64],
-    rows: &[u32],
-    vals: &[f64],
-    x: &mut [f64],
-)
-    requires { Plain (matrix nrows ncols p.now i.now v.now) rows.now vals.now x.old }
-    ensures { x.new ≡ over (add_column (matrix nrows ncols p.now i.now v.now)) rows.now vals.now x.old }
+pub fn accumulate_plain(a: Matrix<'_>, rows: &[u32], vals: &[f64], x: &mut [f64])
+    requires { Plain (matrix_of a) rows.now vals.now x.old }
+    ensures { x.new ≡ over (add_column (matrix_of a.entry)) rows.now vals.now x.old }
 {
-    for k in 0..rows.len() {
-        let c = wide(rows[k]);
-        let a = wide(p[c]);
-        let e = wide(p[c + 1]);
-        add_plain(vals[k], &i[a..e], &v[a..e], x);
+    let Matrix { pattern, v } = a;
+    let Pattern { p, i, .. } = pattern;
+    for (&col, &val) in rows.iter().zip(vals) {
+        let c = wide(col);
+        let start = wide(p[c]);
+        let end = wide(p[c + 1]);
+        add_plain(val, &i[start..end], &v[start..end], x);
     }
 }

@@ -1,73 +1,52 @@
 // Number 7 of the product. What remains is counted only where the outputs have no room for as much as can remain.
-ghost use Rattle.std.specs.Prelude.{◌≡◌, ◌+◌, ◌≤◌};
-ghost use Rattle.cs_matrix.specs.Matrix.{matrix};
+ghost use Rattle.std.specs.Prelude.{[], ◌∷◌, ◌≡◌, ◌+◌, ◌≤◌};
+ghost use Rattle.lists.specs.Calls.{lowest};
+ghost use Rattle.lists.specs.Refusals.{numbered};
+ghost use Rattle.cs_matrix.specs.Lent.{matrix_of};
 ghost use Rattle.cs_columns.specs.Columns.{short_for};
-ghost use Rattle.cs_columns.specs.Columns.{Operands};
-ghost use Rattle.cs_product.specs.Steps.{size, Fresh, Begun};
+ghost use Rattle.cs_product.specs.Steps.{size, Fresh, Factors, Begun};
 
 use crate::columns::count_column;
 use crate::span::span_of;
 use cs_columns::judge::no_room;
-use lists::numbers::{smaller, wide};
+use cs_matrix::matrix::{Matrix, Pattern};
+use lists::numbers::wide;
+use lists::refusal::Refusal;
 
 // No fewer than the entries that remain: of each column the length of its span or its work, whichever is smaller.
-fn bound(
-    nrows: usize,
-    ncols: usize,
-    ap: &[u32],
-    ai: &[u32],
-    av: &[f64],
-    bncols: usize,
-    bp: &[u32],
-    bi: &[u32],
-    bv: &[f64],
-) -> usize
-    requires { Operands (matrix nrows ncols ap.now ai.now av.now) (matrix ncols bncols bp.now bi.now bv.now) }
-    ensures { size (matrix nrows ncols ap.now ai.now av.now) (matrix ncols bncols bp.now bi.now bv.now) ≤ result }
+fn bound(a: Matrix<'_>, b: Matrix<'_>) -> usize
+    requires { Factors (matrix_of a) (matrix_of b) }
+    ensures { size (matrix_of a.entry) (matrix_of b.entry) ≤ result }
 {
+    let Pattern { ncols, p, i, .. } = b.pattern;
     let mut most = 0;
-    for j in 0..bncols {
-        let a = wide(bp[j]);
-        let e = wide(bp[j + 1]);
-        let s = span_of(nrows, ncols, ap, ai, &bi[a..e]);
-        most += smaller(s.hi - s.lo, s.work);
+    for j in 0..ncols {
+        let start = wide(p[j]);
+        let end = wide(p[j + 1]);
+        let span = span_of(a.pattern, &i[start..end]);
+        most += (span.hi - span.lo).min(span.work);
     }
     most
 }
 
 // The number of entries that remain.
-fn count(
-    nrows: usize,
-    ncols: usize,
-    ap: &[u32],
-    ai: &[u32],
-    av: &[f64],
-    bncols: usize,
-    bp: &[u32],
-    bi: &[u32],
-    bv: &[f64],
-    mark: &mut [u32],
-    met: &mut [u32],
-    x: &mut [f64],
-) -> usize
-    requires { Begun (matrix nrows ncols ap.now ai.now av.now) (matrix ncols bncols bp.now bi.now bv.now) 1 mark.old met.old x.old }
-    ensures { let a = matrix nrows ncols ap.now ai.now av.now in
-        let b = matrix ncols bncols bp.now bi.now bv.now in
-        (result ≡ size a b) × Fresh nrows (bncols + 1) mark.new met.new x.new }
+fn count(a: Matrix<'_>, b: Matrix<'_>, mark: &mut [u32], met: &mut [u32], x: &mut [f64]) -> usize
+    requires { Begun (matrix_of a) (matrix_of b) 1 mark.old met.old x.old }
+    ensures { let a = matrix_of a.entry in
+        let b = matrix_of b.entry in
+        (result ≡ size a b) × Fresh a.pattern.nrows (b.pattern.ncols + 1) mark.new met.new x.new }
 {
+    let Matrix { pattern, v } = b;
+    let Pattern { ncols, p, i, .. } = pattern;
     let mut entries = 0;
-    for j in 0..bncols {
-        let a = wide(bp[j]);
-        let e = wide(bp[j + 1]);
+    for j in 0..ncols {
+        let start = wide(p[j]);
+        let end = wide(p[j + 1]);
         entries += count_column(
-            nrows,
-            ncols,
-            ap,
-            ai,
-            av,
+            a,
             (j + 1) as u32,
-            &bi[a..e],
-            &bv[a..e],
+            &i[start..end],
+            &v[start..end],
             mark,
             met,
             x,
@@ -77,32 +56,28 @@ fn count(
 }
 
 // Number 7, by the lengths of the outputs.
-pub fn lacks_room(
-    nrows: usize,
-    ncols: usize,
-    ap: &[u32],
-    ai: &[u32],
-    av: &[f64],
-    bncols: usize,
-    bp: &[u32],
-    bi: &[u32],
-    bv: &[f64],
+pub fn check_room(
+    a: Matrix<'_>,
+    b: Matrix<'_>,
     plen: usize,
     ilen: usize,
     vlen: usize,
     mark: &mut [u32],
     met: &mut [u32],
     x: &mut [f64],
-) -> bool
-    requires { Begun (matrix nrows ncols ap.now ai.now av.now) (matrix ncols bncols bp.now bi.now bv.now) 1 mark.old met.old x.old }
-    ensures { let a = matrix nrows ncols ap.now ai.now av.now in
-        let b = matrix ncols bncols bp.now bi.now bv.now in
-        (result ≡ short_for bncols (size a b) plen ilen vlen) × Fresh nrows (bncols + 1) mark.new met.new x.new }
+) -> Result<(), Refusal>
+    requires { Begun (matrix_of a) (matrix_of b) 1 mark.old met.old x.old }
+    ensures { let a = matrix_of a.entry in
+        let b = matrix_of b.entry in
+        (numbered result ≡ lowest ((7, short_for b.pattern.ncols (size a b) plen ilen vlen) ∷ []))
+        × Fresh a.pattern.nrows (b.pattern.ncols + 1) mark.new met.new x.new }
 {
-    let most = bound(nrows, ncols, ap, ai, av, bncols, bp, bi, bv);
-    if !no_room(bncols, most, plen, ilen, vlen) {
-        return false;
+    let ncols = b.pattern.ncols;
+    if !no_room(ncols, bound(a, b), plen, ilen, vlen) {
+        return Ok(());
     }
-    let entries = count(nrows, ncols, ap, ai, av, bncols, bp, bi, bv, mark, met, x);
-    no_room(bncols, entries, plen, ilen, vlen)
+    if no_room(ncols, count(a, b, mark, met, x), plen, ilen, vlen) {
+        return Err(Refusal::NoRoom);
+    }
+    Ok(())
 }

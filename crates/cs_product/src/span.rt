@@ -1,8 +1,9 @@
 // The rows that a column of the product can have: from the least first row to the largest last row of the columns of A that it takes.
-ghost use Rattle.cs_matrix.specs.Matrix.{pattern};
+ghost use Rattle.cs_matrix.specs.Lent.{pattern_of};
 ghost use Rattle.cs_product.specs.Steps.{Within, Spanned};
 
-use lists::numbers::{larger, smaller, wide};
+use cs_matrix::matrix::Pattern;
+use lists::numbers::wide;
 
 // Rows from lo on and below hi; work is how many entries of A are taken.
 #[derive(Clone, Copy)]
@@ -13,26 +14,27 @@ pub struct Span {
 }
 
 // The span of the columns `cols` of A.
-pub fn span_of(nrows: usize, ncols: usize, p: &[u32], i: &[u32], cols: &[u32]) -> Span
-    requires { Within (pattern nrows ncols p.now i.now) cols.now }
-    ensures { Spanned (pattern nrows ncols p.now i.now) cols.now result.lo result.hi result.work }
+pub fn span_of(a: Pattern<'_>, cols: &[u32]) -> Span
+    requires { Within (pattern_of a) cols.now }
+    ensures { Spanned (pattern_of a.entry) cols.now result.lo result.hi result.work }
 {
+    let Pattern { nrows, p, i, .. } = a;
     let mut lo = nrows;
-    let mut hi = 0;
+    let mut hi: usize = 0;
     let mut work = 0;
-    for k in 0..cols.len() {
-        let c = wide(cols[k]);
-        let a = wide(p[c]);
-        let e = wide(p[c + 1]);
-        if a < e {
-            lo = smaller(lo, wide(i[a]));
-            hi = larger(hi, wide(i[e - 1]) + 1);
-            work += e - a;
+    for &col in cols {
+        let c = wide(col);
+        let start = wide(p[c]);
+        let end = wide(p[c + 1]);
+        if start < end {
+            lo = lo.min(wide(i[start]));
+            hi = hi.max(wide(i[end - 1]) + 1);
+            work += end - start;
         }
     }
     Span {
-        lo: smaller(lo, hi),
-        hi: hi,
-        work: work,
+        lo: lo.min(hi),
+        hi,
+        work,
     }
 }

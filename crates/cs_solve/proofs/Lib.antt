@@ -1,6 +1,7 @@
 pub mod Columns
-pub mod Diagonals
+pub mod Sides
 pub mod Steps
 pub mod Turns
 pub mod Ways
 pub mod Runs
+pub mod Searching

@@ -3,21 +3,19 @@ use mathlib.Core.Path.{◌≡◌, refl, sym, ap, ◌∙◌}
 use mathlib.Core.Bool.{Bool, true, false, cond}
 use mathlib.Core.List.{List, [], ◌∷◌}
 use mathlib.Core.Logic.{⊎_elim}
-use Prim.Native.Nat.{ℕ, ◌+◌, ◌≤◌, ◌<◌}
+use Prim.Native.Nat.{ℕ, ◌≤◌, ◌<◌}
 use native.Mathlib.Omega.{arith}
 use lib.Dec.{ltb}
 use lib.Ieee.{Float, nan, binary64, sub, mul, div}
 use lib.ListN.{length, get_or, set, length-set}
-use lib.Seq.{set_out, set-set, set-get_or, get_or-set_same, get_or-set_other}
+use lib.Seq.{set_out, set-set, get_or-set_same, get_or-set_other}
 use borrow.Author.Tests.{lt-ltb, le-ltb}
 use Rattle.lists.specs.Folds.{over}
 use Rattle.lists.proofs.Bools.{le-or-lt}
-use Rattle.lists.proofs.Folds.{Over, over-start, over-turn, over-end}
-use Rattle.lists.proofs.Pairs.{Paired, paired-start, paired-turn}
 use Rattle.lists.proofs.Positions.{over-keeps}
 use Rattle.cs_matrix.specs.Matrix.{Matrix}
 use Rattle.cs_solve.specs.Solve.{lower_at, forward_at, forward_column}
-use Rattle.cs_solve.specs.TrSolve.{raise_at, transposed_at, Column}
+use Rattle.cs_solve.specs.TrSolve.{raise_at, transposed_at}
 
 -- ---- forward: the lower rows
 module _ (j : ℕ) (x : Float) (i : ℕ) (v : Float) (b : List Float) where
@@ -44,28 +42,6 @@ module _ (j : ℕ) (x : Float) (i : ℕ) (v : Float) (b : List Float) where
       go : (t : Bool) → length (cond t (set b i (sub binary64 (get_or b i nan) (mul binary64 x v))) b) ≡ length b
       go true = length-set b i _
       go false = refl
-
--- the loop of `lower_rows`
-pub record Lowering (j : ℕ) (x : Float) (rows : List ℕ) (vals b₀ b : List Float) (k : ℕ) : Type 0 where
-  pub long : length b ≡ length b₀
-  pub rest : Paired (lower_at j x) rows vals b₀ b k
-
-pub lowering_start : (j : ℕ) (x : Float) (rows : List ℕ) (vals b : List Float) → Lowering j x rows vals b b 0
-lowering_start j x rows vals b = record { long = refl; rest = paired-start (lower_at j x) rows vals b }
-
-module _ {j : ℕ} {x : Float} {rows : List ℕ} {vals b₀ b : List Float} {k : ℕ} (w : Lowering j x rows vals b₀ b k) where
-  module _ (g : k < length rows) (h : k < length vals) {i : ℕ} (e : i ≡ get_or rows k 0) where
-    next : {b' : List Float} → length b' ≡ length b → b' ≡ lower_at j x i (get_or vals k nan) b → Lowering j x rows vals b₀ b' (k + 1)
-    next l q = record { long = l ∙ w.long; rest = paired-turn (lower_at j x) rows vals 0 nan w.rest g h (q ∙ (rw e)) }
-
-    pub lowering_set : j < i → Lowering j x rows vals b₀ (set b i (sub binary64 (get_or b i nan) (mul binary64 x (get_or vals k nan)))) (k + 1)
-    lowering_set m = next (length-set b i _) (lower-set j x i (get_or vals k nan) b m)
-
-    pub lowering_above : i ≤ j → Lowering j x rows vals b₀ b (k + 1)
-    lowering_above m = next refl (lower-above j x i (get_or vals k nan) b m)
-
-    pub lowering_out : length b ≤ i → Lowering j x rows vals b₀ b (k + 1)
-    lowering_out m = next refl (lower_out j x i (get_or vals k nan) b m)
 
 -- a column past the end changes nothing
 lower-none : (j : ℕ) (x : Float) (rows : List ℕ) (vals b : List Float) → length b ≤ j → over (lower_at j x) rows vals b ≡ b
@@ -101,11 +77,7 @@ length-forward_column a j b = length-forward_at j _ _ _ b
 
 -- ---- transposed: the lower rows, with b(j) in y
 module _ (j i : ℕ) (v : Float) (b : List Float) (y : Float) where
-  raise_above : i ≤ j → set b j y ≡ raise_at j i v (set b j y)
-  unfolding raise_at
-  raise_above h = rw (le-ltb j i h)
-
-  raise_set : j < length b → j < i → set b j (sub binary64 y (mul binary64 v (get_or b i nan))) ≡ raise_at j i v (set b j y)
+  pub raise_set : j < length b → j < i → set b j (sub binary64 y (mul binary64 v (get_or b i nan))) ≡ raise_at j i v (set b j y)
   unfolding raise_at
   raise_set g h = rw (
     lt-ltb j i h,
@@ -121,31 +93,6 @@ length-raise_at j i v b = go (ltb j i)
     go : (t : Bool) → length (cond t (set b j (sub binary64 (get_or b j nan) (mul binary64 v (get_or b i nan)))) b) ≡ length b
     go true = length-set b j _
     go false = refl
-
--- the loop of `raised`
-pub record Raising (j : ℕ) (rows : List ℕ) (vals b : List Float) (y : Float) (k : ℕ) : Type 0 where
-  pub ask : Column j (length b) rows vals
-  pub rest : Over (raise_at j) rows vals b (set b j y) k
-
-pub raising_start : {j : ℕ} {rows : List ℕ} {vals b : List Float} → Column j (length b) rows vals → Raising j rows vals b (get_or b j nan) 0
-raising_start {j} {rows} {vals} {b} ask = record { ask = ask; rest = rw (set-get_or b j nan) (over-start (raise_at j) rows vals b) }
-
-module _ {j : ℕ} {rows : List ℕ} {vals b : List Float} {y : Float} {k : ℕ} (w : Raising j rows vals b y k) where
-  module _ (g : k < length rows) {i : ℕ} (e : i ≡ get_or rows k 0) where
-    pub raising_row : i < length b
-    raising_row = omega (arith, w.ask.below k g)
-
-    next_raised : {y' : Float} → set b j y' ≡ raise_at j i (get_or vals k nan) (set b j y) → Raising j rows vals b y' (k + 1)
-    next_raised q = record { ask = w.ask; rest = over-turn (raise_at j) rows vals 0 nan w.ask.alike w.rest g (q ∙ (rw e)) }
-
-    pub raising_set : j < i → Raising j rows vals b (sub binary64 y (mul binary64 (get_or vals k nan) (get_or b i nan))) (k + 1)
-    raising_set h = next_raised (raise_set j i (get_or vals k nan) b y w.ask.here h)
-
-    pub raising_above : i ≤ j → Raising j rows vals b y (k + 1)
-    raising_above h = next_raised (raise_above j i (get_or vals k nan) b y h)
-
-  pub raising_end : length rows ≤ k → set b j y ≡ over (raise_at j) rows vals b
-  raising_end h = over-end (raise_at j) rows vals w.rest h
 
 -- ---- transposed: one column
 pub transposed-is : (j : ℕ) (d : Float) (rows : List ℕ) (vals b : List Float) (y : Float) → j < length b → set b j y ≡ over (raise_at j) rows vals b

@@ -1,58 +1,41 @@
 // What refuses a dense solve: 1 to 5, and 10.
 ghost use Rattle.std.specs.Prelude.{◌≡◌};
 ghost use Rattle.lists.specs.Calls.{lowest};
-ghost use Rattle.lists.specs.Choices.{Found, first_or, last_or};
-ghost use Rattle.cs_matrix.specs.Matrix.{matrix, Valid};
-ghost use Rattle.cs_solve.specs.Judge.{judged_solve, lacking_columns};
+ghost use Rattle.lists.specs.Choices.{first_or, last_or};
+ghost use Rattle.lists.specs.Refusals.{numbered};
+ghost use Rattle.cs_matrix.specs.Lent.{matrix_of};
+ghost use Rattle.cs_matrix.specs.Matrix.{Valid};
+ghost use Rattle.cs_solve.specs.Judge.{judged_solve, lacking_columns, Names};
 
-use crate::diagonal::value_at;
+use crate::diagonal::lacks;
 use cs_matrix::check::check;
-use lists::numbers::{lower, wide};
+use cs_matrix::matrix::{Matrix, Pattern};
+use lists::refusal::{Refusal, lower};
 
-// The lowest of 1 to 5 that applies where the right side has m elements, else 0.
-pub fn judge(nrows: usize, ncols: usize, p: &[u32], i: &[u32], v: &[f64], m: usize) -> u32
-    ensures { result ≡ lowest (judged_solve (matrix nrows ncols p.now i.now v.now) m) }
+// What refuses a matrix with a right side of m elements first: 1 to 5, or nothing.
+pub fn judge(a: Matrix<'_>, m: usize) -> Result<(), Refusal>
+    ensures { numbered result ≡ lowest (judged_solve (matrix_of a.entry) m) }
 {
-    let refused = check(nrows, ncols, p, i, v);
-    if nrows != ncols {
-        return lower(refused, 2);
-    }
-    if m != ncols {
-        return lower(refused, 2);
+    let Pattern { nrows, ncols, .. } = a.pattern;
+    let refused = check(a);
+    if nrows != ncols || m != ncols {
+        return lower(refused, Err(Refusal::Disagree));
     }
     refused
 }
 
-// The lowest column whose diagonal is absent or zero, or n.
-pub fn first_lacking(n: usize, p: &[u32], i: &[u32], v: &[f64]) -> usize
-    requires { Valid (matrix n n p.now i.now v.now) }
-    ensures { let l = lacking_columns (matrix n n p.now i.now v.now) in Found n l (first_or 0 l) result }
+// The lowest column whose diagonal is absent or zero.
+pub fn first_lacking(a: Matrix<'_>) -> Option<usize>
+    requires { Valid (matrix_of a) }
+    ensures { let a = matrix_of a.entry in let l = lacking_columns a in Names a.pattern.ncols l (first_or 0 l) result }
 {
-    let mut j = 0;
-    while j < n {
-        let a = wide(p[j]);
-        let e = wide(p[j + 1]);
-        if value_at(j, &i[a..e], &v[a..e]) == 0.0 {
-            return j;
-        }
-        j += 1;
-    }
-    j
+    (0..a.pattern.ncols).find(|&j| lacks(a, j))
 }
 
-// The highest column whose diagonal is absent or zero, or n.
-pub fn last_lacking(n: usize, p: &[u32], i: &[u32], v: &[f64]) -> usize
-    requires { Valid (matrix n n p.now i.now v.now) }
-    ensures { let l = lacking_columns (matrix n n p.now i.now v.now) in Found n l (last_or 0 l) result }
+// The highest column whose diagonal is absent or zero.
+pub fn last_lacking(a: Matrix<'_>) -> Option<usize>
+    requires { Valid (matrix_of a) }
+    ensures { let a = matrix_of a.entry in let l = lacking_columns a in Names a.pattern.ncols l (last_or 0 l) result }
 {
-    let mut j = n;
-    while j > 0 {
-        j -= 1;
-        let a = wide(p[j]);
-        let e = wide(p[j + 1]);
-        if value_at(j, &i[a..e], &v[a..e]) == 0.0 {
-            return j;
-        }
-    }
-    n
+    (0..a.pattern.ncols).rev().find(|&j| lacks(a, j))
 }

@@ -7,28 +7,28 @@ ghost use Rattle.lists.specs.Choices.{first_or};
 ghost use Rattle.lists.specs.Folds.{over};
 ghost use Rattle.lists.specs.Order.{rises};
 ghost use Rattle.lists.specs.Runs.{zipped};
-ghost use Rattle.cs_matrix.specs.Matrix.{matrix, Valid};
-ghost use Rattle.cs_solve.specs.Judge.{number, answer, lacking_columns};
+ghost use Rattle.cs_matrix.specs.Lent.{matrix_of};
+ghost use Rattle.cs_solve.specs.Judge.{number, answer, lacking_columns, Passed};
 ghost use Rattle.cs_solve.specs.Solve.{lower_at, forward_at, forward as forwardOf};
 ghost use Rattle.cs_solve.specs.TrSolve.{Column};
 
 use crate::Solved;
-use crate::diagonal::value_at;
+use crate::diagonal::{column, value_at};
 use crate::judge::{first_lacking, judge};
-use lists::numbers::{smaller, wide};
+use cs_matrix::matrix::Matrix;
+use lists::numbers::wide;
 use lists::tight::tight;
 
-// b(i) = b(i) - (x times value) for the lower rows i of column j.
+// b(i) = b(i) - (x times value) for the lower rows i of column j. Cut to one length, as two lengths are two tests at each row.
 fn lower_rows(j: usize, x: f64, rows: &[u32], vals: &[f64], b: &mut [f64])
     ensures { b.new ≡ over (lower_at j x) rows.now vals.now b.old }
 {
-    let mut k = 0;
-    while k < rows.len() && k < vals.len() {
-        let i = wide(rows[k]);
+    let n = rows.len().min(vals.len());
+    for (&row, &value) in rows[..n].iter().zip(&vals[..n]) {
+        let i = wide(row);
         if j < i && i < b.len() {
-            b[i] = b[i] - x * vals[k];
+            b[i] -= x * value;
         }
-        k += 1;
     }
 }
 
@@ -36,11 +36,8 @@ fn lower_rows(j: usize, x: f64, rows: &[u32], vals: &[f64], b: &mut [f64])
 fn lower_run(x: f64, vals: &[f64], b: &mut [f64])
     ensures { b.new ≡ zipped (λ y v. sub binary64 y (mul binary64 x v)) b.old vals.now }
 {
-    let n = smaller(vals.len(), b.len());
-    let mut k = 0;
-    while k < n {
-        b[k] = b[k] - x * vals[k];
-        k += 1;
+    for k in 0..vals.len().min(b.len()) {
+        b[k] -= x * vals[k];
     }
 }
 
@@ -51,14 +48,10 @@ fn lower_column(j: usize, x: f64, rows: &[u32], vals: &[f64], b: &mut [f64])
     ensures { b.new ≡ over (lower_at j x) rows.now vals.now b.old }
 {
     let n = rows.len();
-    if n > 8 {
-        if wide(rows[0]) == j {
-            if tight(&rows[1..n]) {
-                let first = wide(rows[1]);
-                lower_run(x, &vals[1..n], &mut b[first..first + (n - 1)]);
-                return;
-            }
-        }
+    if n > 8 && wide(rows[0]) == j && tight(&rows[1..n]) {
+        let first = wide(rows[1]);
+        lower_run(x, &vals[1..n], &mut b[first..first + (n - 1)]);
+        return;
     }
     lower_rows(j, x, rows, vals, b);
 }
@@ -85,48 +78,29 @@ fn forward_column(j: usize, d: f64, rows: &[u32], vals: &[f64], b: &mut [f64])
 }
 
 // All columns, rising.
-fn forward(n: usize, p: &[u32], i: &[u32], v: &[f64], b: &mut [f64])
-    requires { Valid (matrix n n p.now i.now v.now) × (length b.old ≡ n) }
-    ensures { b.new ≡ forwardOf (matrix n n p.now i.now v.now) b.old }
+fn forward(a: Matrix<'_>, b: &mut [f64])
+    requires { Passed (matrix_of a) (length b.old) }
+    ensures { b.new ≡ forwardOf (matrix_of a.entry) b.old }
 {
-    for j in 0..n {
-        let a = wide(p[j]);
-        let e = wide(p[j + 1]);
-        let d = value_at(j, &i[a..e], &v[a..e]);
-        forward_column(j, d, &i[a..e], &v[a..e], b);
+    for j in 0..a.pattern.ncols {
+        let (rows, vals) = column(a, j);
+        let d = value_at(j, rows, vals);
+        forward_column(j, d, rows, vals, b);
     }
 }
 
 // Solves with the lower triangle of a matrix, the right side b in place.
-pub fn solve_lower_triangular(
-    nrows: usize,
-    ncols: usize,
-    p: &[u32],
-    i: &[u32],
-    v: &[f64],
-    b: &mut [f64],
-) -> Solved
-    ensures { let a = matrix nrows ncols p.now i.now v.now in
+pub fn solve_lower_triangular(a: Matrix<'_>, b: &mut [f64]) -> Solved
+    ensures { let a = matrix_of a.entry in
         let old = b.old in
         (result ≡ answer (number a old) (first_or 0 (lacking_columns a))) × (b.new ≡ outputs (number a old) (forwardOf a old) old) }
 {
-    let refused = judge(nrows, ncols, p, i, v, b.len());
-    if refused != 0 {
-        return Solved {
-            number: refused,
-            column: 0,
-        };
+    if let Err(refusal) = judge(a, b.len()) {
+        return Solved::refused(refusal);
     }
-    let lacking = first_lacking(ncols, p, i, v);
-    if lacking < ncols {
-        return Solved {
-            number: 10,
-            column: lacking as u32,
-        };
+    if let Some(column) = first_lacking(a) {
+        return Solved::lacking(column as u32);
     }
-    forward(ncols, p, i, v, b);
-    Solved {
-        number: 0,
-        column: 0,
-    }
+    forward(a, b);
+    Solved::DONE
 }

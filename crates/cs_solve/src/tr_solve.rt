@@ -3,13 +3,14 @@ ghost use Rattle.std.specs.Prelude.{◌≡◌, length, set};
 ghost use Rattle.lists.specs.Calls.{outputs};
 ghost use Rattle.lists.specs.Choices.{last_or};
 ghost use Rattle.lists.specs.Folds.{over};
-ghost use Rattle.cs_matrix.specs.Matrix.{matrix, Valid};
-ghost use Rattle.cs_solve.specs.Judge.{number, answer, lacking_columns};
+ghost use Rattle.cs_matrix.specs.Lent.{matrix_of};
+ghost use Rattle.cs_solve.specs.Judge.{number, answer, lacking_columns, Passed};
 ghost use Rattle.cs_solve.specs.TrSolve.{raise_at, transposed_at, transposed as transposedOf, Column};
 
 use crate::Solved;
-use crate::diagonal::value_at;
+use crate::diagonal::{column, value_at};
 use crate::judge::{judge, last_lacking};
+use cs_matrix::matrix::Matrix;
 use lists::numbers::wide;
 
 // b(j) after b(j) = b(j) - (value times b(i)) for the lower rows i of column j.
@@ -18,14 +19,11 @@ fn raised(j: usize, rows: &[u32], vals: &[f64], b: &[f64]) -> f64
     ensures { set b.now j result ≡ over (raise_at j) rows.now vals.now b.now }
 {
     let mut y = b[j];
-    let mut k = 0;
-    while k < rows.len() {
-        let i = wide(rows[k]);
+    for (&row, &value) in rows.iter().zip(vals) {
+        let i = wide(row);
         if j < i {
-            let value = vals[k];
-            y = y - value * b[i];
+            y -= value * b[i];
         }
-        k += 1;
     }
     y
 }
@@ -40,50 +38,30 @@ fn transposed_at(j: usize, d: f64, rows: &[u32], vals: &[f64], b: &mut [f64])
 }
 
 // All columns, falling.
-fn transposed(n: usize, p: &[u32], i: &[u32], v: &[f64], b: &mut [f64])
-    requires { Valid (matrix n n p.now i.now v.now) × (length b.old ≡ n) }
-    ensures { b.new ≡ transposedOf (matrix n n p.now i.now v.now) b.old }
+fn transposed(a: Matrix<'_>, b: &mut [f64])
+    requires { Passed (matrix_of a) (length b.old) }
+    ensures { b.new ≡ transposedOf (matrix_of a.entry) b.old }
 {
-    let mut j = n;
-    while j > 0 {
-        j -= 1;
-        let a = wide(p[j]);
-        let e = wide(p[j + 1]);
-        let d = value_at(j, &i[a..e], &v[a..e]);
-        transposed_at(j, d, &i[a..e], &v[a..e], b);
+    for j in (0..a.pattern.ncols).rev() {
+        let (rows, vals) = column(a, j);
+        let d = value_at(j, rows, vals);
+        transposed_at(j, d, rows, vals, b);
     }
 }
 
-// Solves with the lower triangle of a matrix transposed, the right side b in place.
-pub fn tr_solve_lower_triangular(
-    nrows: usize,
-    ncols: usize,
-    p: &[u32],
-    i: &[u32],
-    v: &[f64],
-    b: &mut [f64],
-) -> Solved
-    ensures { let a = matrix nrows ncols p.now i.now v.now in
+// Solves with the lower triangle of a matrix transposed, the right side b in place. Alike the forward solve in its two tests alone: what one
+// function over both would take are the search and the steps, which is all of it.
+pub fn tr_solve_lower_triangular(a: Matrix<'_>, b: &mut [f64]) -> Solved
+    ensures { let a = matrix_of a.entry in
         let old = b.old in
         (result ≡ answer (number a old) (last_or 0 (lacking_columns a))) × (b.new ≡ outputs (number a old) (transposedOf a old) old) }
 {
-    let refused = judge(nrows, ncols, p, i, v, b.len());
-    if refused != 0 {
-        return Solved {
-            number: refused,
-            column: 0,
-        };
+    if let Err(refusal) = judge(a, b.len()) {
+        return Solved::refused(refusal);
     }
-    let lacking = last_lacking(ncols, p, i, v);
-    if lacking < ncols {
-        return Solved {
-            number: 10,
-            column: lacking as u32,
-        };
+    if let Some(column) = last_lacking(a) {
+        return Solved::lacking(column as u32);
     }
-    transposed(ncols, p, i, v, b);
-    Solved {
-        number: 0,
-        column: 0,
-    }
+    transposed(a, b);
+    Solved::DONE
 }

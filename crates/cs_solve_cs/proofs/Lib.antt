@@ -1,4 +1,5 @@
 pub mod Marking
+pub mod Naming
 pub mod Reaching
 pub mod Stepping
 pub mod Least

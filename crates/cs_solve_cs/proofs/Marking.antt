@@ -12,7 +12,7 @@ use borrow.Author.Tests.{le-leb, lt-leb, eq-eqb, ne_eqb}
 use Rattle.lists.specs.Folds.{along}
 use Rattle.lists.specs.Order.{lists}
 use Rattle.lists.proofs.Bools.{eq-or-ne}
-use Rattle.lists.proofs.Folds.{Along, along-start, along-turn, along-end}
+use Rattle.lists.proofs.Folds.{Along, along-turn, along-end}
 use Rattle.cs_solve_cs.specs.Steps.{mark_at, mark_all, marked}
 
 module _ (from r : ℕ) (w : List ℕ) where
@@ -60,9 +60,6 @@ module _ (from r : ℕ) (w : List ℕ) where
 pub record Marking (from : ℕ) (rows w₀ w : List ℕ) (k : ℕ) : Type 0 where
   pub long : length w ≡ length w₀
   pub rest : Along (mark_at from) rows w₀ w k
-
-pub marking_start : (from : ℕ) (rows w : List ℕ) → Marking from rows w w 0
-marking_start from rows w = record { long = refl; rest = along-start (mark_at from) rows w }
 
 module _ {from : ℕ} {rows w₀ w : List ℕ} {k : ℕ} (v : Marking from rows w₀ w k) (g : k < length rows) {r : ℕ} (e : r ≡ get_or rows k 0) where
   next : {w' : List ℕ} → length w' ≡ length w → w' ≡ mark_at from r w → Marking from rows w₀ w' (k + 1)

@@ -9,22 +9,20 @@ use native.Mathlib.Nat.{eq-or-lt_of_le}
 use native.Mathlib.Numerals.{add-one}
 use native.Mathlib.Omega.{arith}
 use lib.Dec.{leb}
-use lib.Ieee.{Float, eq}
+use lib.Ieee.{Float}
 use lib.ListN.{length, get_or, replicate, length-append, length-replicate, get_or-replicate}
 use borrow.Author.Tests.{le-ltb, le-leb, eq-eqb, ne_eqb}
-use Rattle.lists.specs.Calls.{none}
 use Rattle.lists.specs.Choices.{chosen, some_of}
 use Rattle.lists.specs.Order.{lists}
-use Rattle.lists.specs.Parts.{part}
-use Rattle.cs_matrix.specs.Matrix.{Pattern, pattern, matrix, Valid, column, value_at}
-use Rattle.cs_solve.specs.Diagonal.{lacking}
-use Rattle.cs_solve.proofs.Columns.{Handed, diagonal-is}
-use Rattle.cs_solve.proofs.Diagonals.{lacking-is}
+use Rattle.cs_matrix.specs.Matrix.{Pattern, Matrix, Valid, column}
+use Rattle.cs_solve.specs.Diagonal.{lacking, IsColumn}
 use Rattle.cs_solve_cs.specs.Reach.{stores, touched, reached_below, reached}
 use Rattle.cs_solve_cs.specs.Steps.{mark_all, marked, marks}
-use Rattle.lists.proofs.Finding.{FoundIn, found_none, found-not, found_before, found_new}
 use Rattle.lists.proofs.Chosen.{some_of-append, chosen_alike, chosen-within}
 use Rattle.cs_solve_cs.proofs.Marking.{length-mark_all, marked_all}
+use Rattle.cs_solve_cs.proofs.Naming.{NamesIn, names_none, names-not, names_before, names_new}
+use Rattle.std.proofs.Common.{Option, Some, None}
+use Rattle.std.specs.Option.{is_some}
 
 module _ (a : Pattern) (rows : List ℕ) where
   abbrev below : ℕ → List ℕ
@@ -87,83 +85,78 @@ module _ (a : Pattern) (rows : List ℕ) where
       go false e l = rw (append-nil (below m)) e
 
 -- ---- the loop
-pub record Reaching (n : ℕ) (p i : List ℕ) (v : List Float) (rows w : List ℕ) (count least m : ℕ) : Type 0 where
-  pub valid : Valid (matrix n n p i v)
-  pub within : m ≤ n
-  pub long : length w ≡ n
-  pub counted : count ≡ length (reached_below (pattern n n p i) rows m)
-  pub lacks : FoundIn n (lacking (matrix n n p i v)) (reached_below (pattern n n p i) rows m) least
-  pub each : (k : ℕ) → k < n → marked w k ≡ touched (pattern n n p i) rows (reached_below (pattern n n p i) rows m) k
+pub record Reaching (a : Matrix) (rows w : List ℕ) (count : ℕ) (least : Option ℕ) (m : ℕ) : Type 0 where
+  pub valid : Valid a
+  pub within : m ≤ a.pattern.ncols
+  pub long : length w ≡ a.pattern.ncols
+  pub counted : count ≡ length (reached_below a.pattern rows m)
+  pub lacks : NamesIn a.pattern.ncols (lacking a) (reached_below a.pattern rows m) least
+  pub each : (k : ℕ) → k < a.pattern.ncols → marked w k ≡ touched a.pattern rows (reached_below a.pattern rows m) k
 
-pub reaching_start : {n : ℕ} {p i : List ℕ} {v : List Float} {rows w w' : List ℕ} → Valid (matrix n n p i v) → w ≡ replicate n 0 →
-    w' ≡ mark_all 0 rows w → Reaching n p i v rows w' 0 n 0
+pub reaching_start : {a : Matrix} {rows w w' : List ℕ} → Valid a → w ≡ replicate a.pattern.ncols 0 → w' ≡ mark_all 0 rows w →
+    Reaching a rows w' 0 None 0
 unfolding reached_below touched some_of
-reaching_start {n} {p} {i} {v} {rows} {w} {w'} a e q = record {
-  valid = a;
+reaching_start {a} {rows} {w} {w'} ok e q = record {
+  valid = ok;
   within = omega arith;
-  long = ap length q ∙ length-mark_all 0 rows w ∙ ap length e ∙ length-replicate n 0;
+  long = ap length q ∙ length-mark_all 0 rows w ∙ ap length e ∙ length-replicate a.pattern.ncols 0;
   counted = refl;
-  lacks = found_none n (lacking (matrix n n p i v));
-  each = λ k h. ap (λ (t : List ℕ). marked t k) q ∙ marked_all 0 rows w k (omega (arith, ap length e, length-replicate {A = ℕ} n 0)) ∙ go k h;
+  lacks = names_none a.pattern.ncols (lacking a);
+  each = λ k h. ap (λ (t : List ℕ). marked t k) q ∙ marked_all 0 rows w k (omega (arith, ap length e, length-replicate {A = ℕ} a.pattern.ncols 0)) ∙
+      go k h;
 }
   where
-    go : (k : ℕ) → k < n → ((leb 0 k && lists k rows) || marked w k) ≡ (lists k rows || false)
-    go k h = rw (e, get_or-replicate {A = ℕ} n k 0 0 h, le-leb 0 k (omega arith))
+    go : (k : ℕ) → k < a.pattern.ncols → ((leb 0 k && lists k rows) || marked w k) ≡ (lists k rows || false)
+    go k h = rw (e, get_or-replicate {A = ℕ} a.pattern.ncols k 0 0 h, le-leb 0 k (omega arith))
 
-module _ {n : ℕ} {p i : List ℕ} {v : List Float} {rows w : List ℕ} {count least m : ℕ} (r : Reaching n p i v rows w count least m) (h : m < n) where
-  abbrev a : Pattern
-  a = pattern n n p i
+module _ {a : Matrix} {rows w : List ℕ} {count : ℕ} {least : Option ℕ} {m : ℕ} (r : Reaching a rows w count least m) (h : m < a.pattern.ncols) where
+  abbrev l : List ℕ
+  l = reached_below a.pattern rows m
 
   pub count_small : count ≤ m
-  count_small = omega (arith, r.counted, below-within a rows m)
+  count_small = omega (arith, r.counted, below-within a.pattern rows m)
 
-  hit : (get_or w m 0 ≡ 0 → ⊥) → reaches a rows m ≡ true
+  hit : (get_or w m 0 ≡ 0 → ⊥) → reaches a.pattern rows m ≡ true
   hit t = sym (r.each m h) ∙ (rw (ne_eqb (get_or w m 0) 0 t))
 
-  miss : get_or w m 0 ≡ 0 → reaches a rows m ≡ false
+  miss : get_or w m 0 ≡ 0 → reaches a.pattern rows m ≡ false
   miss t = sym (r.each m h) ∙ (rw (eq-eqb (get_or w m 0) 0 t))
 
   -- the lowest that lacks, once column m is seen
-  abbrev pub Seen : ℕ → Type 0
-  Seen x = FoundIn n (lacking (matrix n n p i v)) (reached_below a rows m ++ (m ∷ [])) x
+  abbrev pub Seen : Option ℕ → Type 0
+  Seen x = NamesIn a.pattern.ncols (lacking a) (l ++ (m ∷ [])) x
 
-  pub seen_before : least < n → Seen least
-  seen_before t = go (lacking (matrix n n p i v) m) refl
-    where
-      go : (b : Bool) → lacking (matrix n n p i v) m ≡ b → Seen least
-      go true e = found_before (lacking (matrix n n p i v)) (reached_below a rows m) r.lacks m e t
-      go false e = found-not (lacking (matrix n n p i v)) (reached_below a rows m) r.lacks m e
+  pub seen_before : is_some least ≡ true → Seen least
+  seen_before t = names_before a.pattern.ncols (lacking a) l m least t r.lacks
 
-  module _ {s e : ℕ} {d : Float} (b : Handed p i v m s e) (q : d ≡ value_at m (part s e i) (part s e v)) where
-    pub seen_new : n ≤ least → eq d none ≡ true → Seen m
-    seen_new t u = found_new (lacking (matrix n n p i v)) (reached_below a rows m) r.lacks m
-        (lacking-is (matrix n n p i v) m (diagonal-is n n b q) u) t h
+  pub seen_new : is_some least ≡ false → lacking a m ≡ true → Seen (Some m)
+  seen_new t u = names_new a.pattern.ncols (lacking a) l m least t u h r.lacks
 
-    pub seen_not : eq d none ≡ false → Seen least
-    seen_not u = found-not (lacking (matrix n n p i v)) (reached_below a rows m) r.lacks m (lacking-is (matrix n n p i v) m (diagonal-is n n b q) u)
+  pub seen_not : lacking a m ≡ false → Seen least
+  seen_not u = names-not a.pattern.ncols (lacking a) l m least u r.lacks
 
-  pub reaching_on : {s e x : ℕ} {w' : List ℕ} → (get_or w m 0 ≡ 0 → ⊥) → Handed p i v m s e → Seen x → w' ≡ mark_all (m + 1) (part s e i) w →
-      Reaching n p i v rows w' (count + 1) x (m + 1)
-  reaching_on {s} {e} {x} {w'} t b f q = record {
+  pub reaching_on : {given : List ℕ} {vals : List Float} {x : Option ℕ} {w' : List ℕ} → (get_or w m 0 ≡ 0 → ⊥) → IsColumn a m given vals → Seen x →
+      w' ≡ mark_all (m + 1) given w → Reaching a rows w' (count + 1) x (m + 1)
+  reaching_on {given} {vals} {x} {w'} t b f q = record {
     valid = r.valid;
     within = omega arith;
-    long = ap length q ∙ length-mark_all (m + 1) (part s e i) w ∙ r.long;
-    counted = rw (below_more a rows m (hit t), length-append (reached_below a rows m) (m ∷ []), ← r.counted);
-    lacks = rw (below_more a rows m (hit t)) f;
-    each = λ k l. ap (λ (u : List ℕ). marked u k) q ∙ marked_all (m + 1) (part s e i) w k (omega (arith, r.long)) ∙
-        ap (λ (u : Bool). (leb (m + 1) k && lists k (part s e i)) || u) (r.each k l) ∙ store k;
+    long = ap length q ∙ length-mark_all (m + 1) given w ∙ r.long;
+    counted = rw (below_more a.pattern rows m (hit t), length-append l (m ∷ []), ← r.counted);
+    lacks = rw (below_more a.pattern rows m (hit t)) f;
+    each = λ k l. ap (λ (u : List ℕ). marked u k) q ∙ marked_all (m + 1) given w k (omega (arith, r.long)) ∙
+        ap (λ (u : Bool). (leb (m + 1) k && lists k given) || u) (r.each k l) ∙ store k;
   }
     where
-      store : (k : ℕ) → ((leb (m + 1) k && lists k (part s e i)) || touched a rows (reached_below a rows m) k)
-          ≡ touched a rows (reached_below a rows (m + 1)) k
-      store k = rw (below_more a rows m (hit t), touched-more a rows (reached_below a rows m) m k, b.rows) (go k)
+      store : (k : ℕ) → ((leb (m + 1) k && lists k given) || touched a.pattern rows l k) ≡ touched a.pattern rows
+          (reached_below a.pattern rows (m + 1)) k
+      store k = rw (below_more a.pattern rows m (hit t), touched-more a.pattern rows l m k, b.rows_are) (go k)
         where
-          go : (k : ℕ) → ((leb (m + 1) k && lists k (column p m i)) || touched a rows (reached_below a rows m) k)
-              ≡ (stores a m k || touched a rows (reached_below a rows m) k)
-          go k = rw (stores-is a rows m k)
+          go : (k : ℕ) → ((leb (m + 1) k && lists k (column a.pattern.p m a.pattern.i)) || touched a.pattern rows l k)
+              ≡ (stores a.pattern m k || touched a.pattern rows l k)
+          go k = rw (stores-is a.pattern rows m k)
 
-  pub reaching_off : get_or w m 0 ≡ 0 → Reaching n p i v rows w count least (m + 1)
-  reaching_off t = let e = below-same a rows m (miss t) in record {
+  pub reaching_off : get_or w m 0 ≡ 0 → Reaching a rows w count least (m + 1)
+  reaching_off t = let e = below-same a.pattern rows m (miss t) in record {
     valid = r.valid;
     within = omega arith;
     long = r.long;
@@ -172,17 +165,17 @@ module _ {n : ℕ} {p i : List ℕ} {v : List Float} {rows w : List ℕ} {count 
     each = λ k l. rw e (r.each k l);
   }
 
-pub reaching_end : {n : ℕ} {p i : List ℕ} {v : List Float} {rows w : List ℕ} {count least m : ℕ} → Reaching n p i v rows w count least m → n ≤ m
-    → (marks n w ≡ reached (pattern n n p i) rows) × (count ≡ length (reached (pattern n n p i) rows)) ×
-    FoundIn n (lacking (matrix n n p i v)) (reached (pattern n n p i) rows) least
+pub reaching_end : {a : Matrix} {rows w : List ℕ} {count : ℕ} {least : Option ℕ} {m : ℕ} → Reaching a rows w count least m → a.pattern.ncols ≤ m →
+    (marks a.pattern.ncols w ≡ reached a.pattern rows) × (count ≡ length (reached a.pattern rows)) ×
+    NamesIn a.pattern.ncols (lacking a) (reached a.pattern rows) least
 unfolding reached marks
-reaching_end {n} {p} {i} {v} {rows} {w} {count} {least} {m} r h =
-    let a = pattern n n p i in
-    let e : m ≡ n = omega (arith, r.within) in
+reaching_end {a} {rows} {w} {count} {least} {m} r h =
+    let n = a.pattern.ncols in
+    let e : m ≡ a.pattern.ncols = omega (arith, r.within) in
     let c = r.counted in
     let d = r.lacks in
     let f = r.each in (
-      chosen_alike n (marked w) (reaches a rows) (λ k l. f k l ∙ settled a rows m k (omega arith)) ∙ sym (below-is a rows n),
+      chosen_alike n (marked w) (reaches a.pattern rows) (λ k l. f k l ∙ settled a.pattern rows m k (omega arith)) ∙ sym (below-is a.pattern rows n),
       rw e at c,
       rw e at d,
     )

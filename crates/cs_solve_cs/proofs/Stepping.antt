@@ -6,24 +6,21 @@ use mathlib.Core.Logic.{⊎_elim}
 use Prim.Native.Nat.{ℕ, ◌+◌, ◌≤◌, ◌<◌}
 use native.Mathlib.Omega.{arith}
 use lib.Ieee.{Float, nan, binary64, sub, mul, div}
-use lib.ListN.{length, get_or, set, length-append, length-map, length-set}
-use lib.Seq.{set_out, get_or-set_other}
+use lib.ListN.{length, get_or, set, length-append, length-map}
+use lib.Seq.{get_or-set_other}
 use borrow.Author.Tests.{eq-eqb, ne_eqb}
 use Rattle.lists.specs.Calls.{onto}
 use Rattle.lists.specs.Choices.{chosen}
 use Rattle.lists.specs.Folds.{along}
-use Rattle.lists.specs.Parts.{part}
 use Rattle.lists.proofs.Bools.{le-or-lt}
 use Rattle.lists.proofs.Choices.{chosen_more, chosen-same}
-use Rattle.lists.proofs.Pairs.{Paired, paired-start, paired-turn}
 use Rattle.lists.proofs.Parts.{onto-more, onto-none, length-onto}
 use Rattle.lists.proofs.Positions.{over-keeps}
-use Rattle.cs_matrix.specs.Matrix.{Matrix, matrix, value_at, Valid}
+use Rattle.cs_matrix.specs.Matrix.{Matrix, value_at, Valid}
+use Rattle.cs_solve.specs.Diagonal.{IsColumn}
 use Rattle.cs_solve.specs.Solve.{lower_at, forward_at, forward_column}
-use Rattle.cs_solve.proofs.Columns.{Handed}
 use Rattle.cs_solve.proofs.Steps.{lower-set, lower-above, length-forward_column}
 use Rattle.cs_solve.proofs.Turns.{forward-step}
-use Rattle.cs_solve_cs.specs.SolveCs.{put_at}
 use Rattle.cs_solve_cs.specs.Steps.{marked, marks, Room}
 use Rattle.lists.proofs.Chosen.{along-more, map_more, chosen_grows, chosen_member}
 
@@ -34,22 +31,6 @@ module _ (w : List ℕ) (j : ℕ) where
 
   pub not-marked : get_or w j 0 ≡ 0 → marked w j ≡ false
   not-marked t = rw (eq-eqb (get_or w j 0) 0 t)
-
--- ---- the values put at their rows
-pub record Putting (rows : List ℕ) (vals x₀ x : List Float) (k : ℕ) : Type 0 where
-  pub long : length x ≡ length x₀
-  pub rest : Paired put_at rows vals x₀ x k
-
-pub putting_start : (rows : List ℕ) (vals x : List Float) → Putting rows vals x x 0
-putting_start rows vals x = record { long = refl; rest = paired-start put_at rows vals x }
-
-module _ {rows : List ℕ} {vals x₀ x : List Float} {k : ℕ} (v : Putting rows vals x₀ x k) (g : k < length rows) (h : k < length vals) {r : ℕ}
-    (e : r ≡ get_or rows k 0) where
-  pub putting_set : Putting rows vals x₀ (set x r (get_or vals k nan)) (k + 1)
-  putting_set = record { long = length-set x r (get_or vals k nan) ∙ v.long; rest = paired-turn put_at rows vals 0 nan v.rest g h (rw e) }
-
-  pub putting_out : length x ≤ r → Putting rows vals x₀ x (k + 1)
-  putting_out l = record { long = v.long; rest = paired-turn put_at rows vals 0 nan v.rest g h (sym (set_out x r (get_or vals k nan) l) ∙ (rw e)) }
 
 -- ---- the forward steps: a column changes no value above its own
 module _ (j k : ℕ) (h : k < j) where
@@ -75,34 +56,33 @@ module _ (j k : ℕ) (h : k < j) where
   unfolding forward_column
   column-keeps a b = forward-keeps _ _ _ b
 
-pub record Forwarding (n : ℕ) (p i : List ℕ) (v : List Float) (w : List ℕ) (x₀ x : List Float) (j : ℕ) : Type 0 where
-  pub within : j ≤ n
+pub record Forwarding (a : Matrix) (w : List ℕ) (x₀ x : List Float) (j : ℕ) : Type 0 where
+  pub within : j ≤ a.pattern.ncols
   pub long : length x ≡ length x₀
-  pub is : x ≡ along (forward_column (matrix n n p i v)) (chosen j (marked w)) x₀
+  pub is : x ≡ along (forward_column a) (chosen j (marked w)) x₀
 
-pub forwarding_start : (n : ℕ) (p i : List ℕ) (v : List Float) (w : List ℕ) (x : List Float) → Forwarding n p i v w x x 0
+pub forwarding_start : (a : Matrix) (w : List ℕ) (x : List Float) → Forwarding a w x x 0
 unfolding chosen along
-forwarding_start n p i v w x = record { within = omega arith; long = refl; is = refl }
+forwarding_start a w x = record { within = omega arith; long = refl; is = refl }
 
-module _ {n : ℕ} {p i : List ℕ} {v : List Float} {w : List ℕ} {x₀ x : List Float} {j : ℕ} (f : Forwarding n p i v w x₀ x j) (h : j < n) where
-  pub forwarding_on : {s e : ℕ} {d : Float} {x' : List Float} → (get_or w j 0 ≡ 0 → ⊥) → Handed p i v j s e → d ≡ value_at j (part s e i) (part s e v)
-      → x' ≡ forward_at j d (part s e i) (part s e v) x → Forwarding n p i v w x₀ x' (j + 1)
+module _ {a : Matrix} {w : List ℕ} {x₀ x : List Float} {j : ℕ} (f : Forwarding a w x₀ x j) (h : j < a.pattern.ncols) where
+  pub forwarding_on : {rows : List ℕ} {vals : List Float} {d : Float} {x' : List Float} → (get_or w j 0 ≡ 0 → ⊥) → IsColumn a j rows vals →
+      d ≡ value_at j rows vals → x' ≡ forward_at j d rows vals x → Forwarding a w x₀ x' (j + 1)
   forwarding_on t b q u =
-      let a = matrix n n p i v in
-      let c = forward-step n n x b q u in
+      let c = forward-step x b q u in
       record {
         within = omega arith;
         long = ap length c ∙ length-forward_column a j x ∙ f.long;
         is = rw (chosen_more j (marked w) (is-marked w j t), along-more (forward_column a) (chosen j (marked w)) j x₀, ← f.is) c;
       }
 
-  pub forwarding_off : get_or w j 0 ≡ 0 → Forwarding n p i v w x₀ x (j + 1)
+  pub forwarding_off : get_or w j 0 ≡ 0 → Forwarding a w x₀ x (j + 1)
   forwarding_off t = record { within = omega arith; long = f.long; is = rw (chosen-same j (marked w) (not-marked w j t)) f.is }
 
-pub forwarding_end : {n : ℕ} {p i : List ℕ} {v : List Float} {w : List ℕ} {x₀ x : List Float} {j : ℕ} → Forwarding n p i v w x₀ x j → n ≤ j →
-    x ≡ along (forward_column (matrix n n p i v)) (marks n w) x₀
+pub forwarding_end : {a : Matrix} {w : List ℕ} {x₀ x : List Float} {j : ℕ} → Forwarding a w x₀ x j → a.pattern.ncols ≤ j →
+    x ≡ along (forward_column a) (marks a.pattern.ncols w) x₀
 unfolding marks
-forwarding_end {n} {j = j} f h = let e : j ≡ n = omega (arith, f.within) in let q = f.is in rw e at q
+forwarding_end {a} {j = j} f h = let e : j ≡ a.pattern.ncols = omega (arith, f.within) in let q = f.is in rw e at q
 
 -- ---- the result
 abbrev pub values_of : List Float → List ℕ → List Float
@@ -182,42 +162,42 @@ module _ {n : ℕ} {w : List ℕ} {x : List Float} {xi₀ : List ℕ} {xv₀ : L
   gathering_end h = let e : j ≡ n = omega (arith, g.within) in let a = g.rows in let b = g.vals in (rw e at a, rw e at b)
 
 -- ---- both in one loop
-pub record Serving (n : ℕ) (p i : List ℕ) (v : List Float) (w : List ℕ) (x₀ : List Float) (xi₀ : List ℕ) (xv₀ : List Float) (x : List Float)
-    (xi : List ℕ) (xv : List Float) (at j : ℕ) : Type 0 where
-  pub valid : Valid (matrix n n p i v)
-  pub steps : Forwarding n p i v w x₀ x j
-  pub out : Gathering n w x xi₀ xv₀ xi xv at j
+pub record Serving (a : Matrix) (w : List ℕ) (x₀ : List Float) (xi₀ : List ℕ) (xv₀ x : List Float) (xi : List ℕ) (xv : List Float) (at j : ℕ)
+    : Type 0 where
+  pub valid : Valid a
+  pub steps : Forwarding a w x₀ x j
+  pub out : Gathering a.pattern.ncols w x xi₀ xv₀ xi xv at j
 
-pub serving_start : {n : ℕ} {p i : List ℕ} {v : List Float} {w : List ℕ} {x : List Float} {xi : List ℕ} {xv : List Float} → Valid (matrix n n p i v)
-    → Room n w x xi xv → Serving n p i v w x xi xv x xi xv 0 0
-serving_start {n} {p} {i} {v} {w} {x} a r = record { valid = a; steps = forwarding_start n p i v w x; out = gathering_start r }
+pub serving_start : {a : Matrix} {w : List ℕ} {x : List Float} {xi : List ℕ} {xv : List Float} → Valid a → Room a.pattern.ncols w x xi xv →
+    Serving a w x xi xv x xi xv 0 0
+serving_start {a} {w} {x} ok r = record { valid = ok; steps = forwarding_start a w x; out = gathering_start r }
 
-module _ {n : ℕ} {p i : List ℕ} {v : List Float} {w : List ℕ} {x₀ : List Float} {xi₀ : List ℕ} {xv₀ : List Float} {x : List Float} {xi : List ℕ}
-    {xv : List Float} {at j : ℕ} (s : Serving n p i v w x₀ xi₀ xv₀ x xi xv at j) where
-  pub serving_end : n ≤ j → (xi ≡ onto xi₀ (marks n w)) ×
-      (xv ≡ onto xv₀ (values_of (along (forward_column (matrix n n p i v)) (marks n w) x₀) (marks n w)))
+module _ {a : Matrix} {w : List ℕ} {x₀ : List Float} {xi₀ : List ℕ} {xv₀ x : List Float} {xi : List ℕ} {xv : List Float} {at j : ℕ}
+    (s : Serving a w x₀ xi₀ xv₀ x xi xv at j) where
+  pub serving_end : a.pattern.ncols ≤ j → (xi ≡ onto xi₀ (marks a.pattern.ncols w)) ×
+      (xv ≡ onto xv₀ (values_of (along (forward_column a) (marks a.pattern.ncols w) x₀) (marks a.pattern.ncols w)))
   serving_end h = let g = gathering_end s.out h in (g.0, g.1 ∙ (rw (forwarding_end s.steps h)))
 
-  module _ (h : j < n) where
-    pub serving_off : get_or w j 0 ≡ 0 → Serving n p i v w x₀ xi₀ xv₀ x xi xv at (j + 1)
+  module _ (h : j < a.pattern.ncols) where
+    pub serving_off : get_or w j 0 ≡ 0 → Serving a w x₀ xi₀ xv₀ x xi xv at (j + 1)
     serving_off t = record { valid = s.valid; steps = forwarding_off s.steps h t; out = gathering_off s.out h t }
 
-    module _ {b e : ℕ} {d : Float} {y : List Float} (c : Handed p i v j b e) (q : d ≡ value_at j (part b e i) (part b e v))
-        (u : y ≡ forward_at j d (part b e i) (part b e v) x) where
-      stepped : y ≡ forward_column (matrix n n p i v) j x
-      stepped = forward-step n n x c q u
+    module _ {rows : List ℕ} {vals : List Float} {d : Float} {y : List Float} (c : IsColumn a j rows vals) (q : d ≡ value_at j rows vals)
+        (u : y ≡ forward_at j d rows vals x) where
+      stepped : y ≡ forward_column a j x
+      stepped = forward-step x c q u
 
       -- what is gathered is gathered of the new values too
-      moved : Gathering n w y xi₀ xv₀ xi xv at j
+      moved : Gathering a.pattern.ncols w y xi₀ xv₀ xi xv at j
       moved =
           let g = s.out in
           let r = g.ask in
-          let f = values-kept j (marked w) x y (λ k l. ap (λ (z : List Float). get_or z k nan) stepped ∙ column-keeps j k l (matrix n n p i v) x) in
+          let f = values-kept j (marked w) x y (λ k l. ap (λ (z : List Float). get_or z k nan) stepped ∙ column-keeps j k l a x) in
           record {
             ask = record {
               small = r.small;
               w_long = r.w_long;
-              x_long = omega (arith, r.x_long, ap length stepped, length-forward_column (matrix n n p i v) j x);
+              x_long = omega (arith, r.x_long, ap length stepped, length-forward_column a j x);
               in_i = r.in_i;
               in_v = r.in_v;
             };
@@ -227,9 +207,6 @@ module _ {n : ℕ} {p i : List ℕ} {v : List Float} {w : List ℕ} {x₀ : List
             vals = rw f g.vals;
           }
 
-      pub value_in : j < length y
-      value_in = omega (arith, moved.ask.x_long)
-
       module _ (t : get_or w j 0 ≡ 0 → ⊥) where
         pub out_i : at < length xi
         out_i = at-in_i moved h t
@@ -238,5 +215,5 @@ module _ {n : ℕ} {p i : List ℕ} {v : List Float} {w : List ℕ} {x₀ : List
         out_v = at-in_v moved h t
 
         pub serving_on : {xi' : List ℕ} {xv' : List Float} {at' : ℕ} → (at' ≡ at + 1) × (xi' ≡ set xi at j) × (xv' ≡ set xv at (get_or y j nan)) →
-            Serving n p i v w x₀ xi₀ xv₀ y xi' xv' at' (j + 1)
+            Serving a w x₀ xi₀ xv₀ y xi' xv' at' (j + 1)
         serving_on z = rw (z.0, z.1, z.2) (record { valid = s.valid; steps = forwarding_on s.steps h t c q u; out = gathering_on moved h t })

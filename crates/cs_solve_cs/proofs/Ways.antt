@@ -2,15 +2,18 @@
 use mathlib.Core.Path.{◌≡◌, refl, sym, ap, ◌∙◌}
 use mathlib.Core.Bool.{Bool, true, false, not, cond, ◌&&◌, ◌||◌}
 use mathlib.Core.List.{List, ◌∷◌}
+use mathlib.Core.Logic.{◌⊎◌}
 use Prim.Native.Nat.{ℕ, zero, suc, ◌+◌, ◌≤◌, ◌<◌}
 use native.Mathlib.Omega.{arith}
 use lib.Dec.{T, ltb, eqb}
 use lib.Ieee.{Float, nan, binary64, fits}
-use lib.ListN.{length, get_or, replicate, length-map}
-use borrow.Author.Tests.{lt-ltb, le-ltb, eq-eqb, ne_eqb, eqb-true}
+use lib.ListN.{length, get_or, length-map}
+use Rattle.std.proofs.Common.{Option, Some, None}
+use Rattle.std.proofs.lemmas.Bool.Decides.{nat_tests}
+use borrow.Author.Tests.{le-ltb, eq-eqb, ne_eqb, eqb-true}
 use Rattle.lists.specs.Calls.{lowest, both, disagree, lower, onto, none, Scratch, scratch, narrow, cleared, wiped, Lent, lent, outputs, worked}
 use Rattle.lists.specs.Calls.{leaves}
-use Rattle.lists.specs.Choices.{keep, some, first_or, Found}
+use Rattle.lists.specs.Choices.{keep, some, first_or}
 use Rattle.lists.specs.Folds.{along, over}
 use Rattle.lists.specs.Parts.{part, placed}
 use Rattle.lists.proofs.Bools.{not_holds, passed_over}
@@ -22,14 +25,13 @@ use Rattle.cs_matrix.specs.Matrix.{Matrix, matrix, pattern, Vector, vector, judg
 use Rattle.cs_matrix.proofs.Refusing.{from-judged, from_vector, from-disagree}
 use Rattle.cs_matrix.proofs.Validity.{valid, valid_vector}
 use Rattle.cs_solve.specs.Diagonal.{lacking}
-use Rattle.cs_solve.specs.Judge.{answer}
+use Rattle.cs_solve.specs.Judge.{solved, answer, Names}
 use Rattle.cs_solve.specs.Solve.{forward_column}
 use Rattle.cs_solve.specs.declared.Solved.{Solved}
-use Rattle.cs_solve.proofs.Columns.{squared}
 use Rattle.cs_solve_cs.specs.Agree.{Promised}
 use Rattle.cs_solve_cs.specs.Reach.{reached}
 use Rattle.cs_solve_cs.specs.SolveCs.{put_at, right, steps, solution, lacking_reached, judged_cs, Stored, stored, short, written, later, number}
-use Rattle.cs_solve_cs.specs.Steps.{marks, Ready, Room}
+use Rattle.cs_solve_cs.specs.Steps.{marks, Ready}
 use Rattle.cs_solve_cs.proofs.Agreeing.{agrees}
 use Rattle.cs_solve_cs.proofs.Least.{member_below, reaches_least}
 use Rattle.cs_solve_cs.proofs.Reaching.{below-within}
@@ -68,31 +70,25 @@ early_cs a b = (
 )
 
 -- what a matrix and a right side are that pass
-pub record Passed (k n : ℕ) (p i : List ℕ) (v : List Float) (bi : List ℕ) (bv : List Float) : Type 0 where
-  pub same : k ≡ n
-  pub square : Valid (matrix n n p i v)
-  pub side : ValidVector (vector n bi bv)
+pub record Passed (a : Matrix) (b : Vector) : Type 0 where
+  pub valid : Valid a
+  pub square : a.pattern.nrows ≡ a.pattern.ncols
+  pub side : ValidVector b
 
-pub passed : (k n : ℕ) (p i : List ℕ) (v : List Float) (bi : List ℕ) (bv : List Float) {r : ℕ} →
-    r ≡ lowest (judged_cs (matrix k n p i v) (vector k bi bv)) → r ≡ 0 → Passed k n p i v bi bv
+pub passed : (a : Matrix) (b : Vector) {r : ℕ} → r ≡ lowest (judged_cs a b) → r ≡ 0 → Passed a b
 unfolding judged_cs
-passed k n p i v bi bv e h =
-    let a = matrix k n p i v in
-    let b = vector k bi bv in
-    let t = lower-none (lowest (both (judged a) (judged_vector b))) (lowest (disagree (not (eqb k n)))) (three_is a b (not (eqb k n)) ∙ sym e ∙ h) in
+passed a b e h =
+    let o = not (eqb a.pattern.nrows a.pattern.ncols) in
+    let t = lower-none (lowest (both (judged a) (judged_vector b))) (lowest (disagree o)) (three_is a b o ∙ sym e ∙ h) in
     let u = lower-none (lowest (judged a)) (lowest (judged_vector b)) (two_is a b ∙ t.0) in
-    let q = eqb-true k n (not_holds (eqb k n) (passed_over (not (eqb k n)) 1 0 t.1).0) in
-    let s = valid_vector b u.1 in
-    record { same = q; square = squared (valid a u.0) q; side = rw q at s }
+    record {
+      valid = valid a u.0;
+      square = eqb-true a.pattern.nrows a.pattern.ncols (not_holds (eqb a.pattern.nrows a.pattern.ncols) (passed_over o 1 0 t.1).0);
+      side = valid_vector b u.1;
+    }
 
 -- ---- 7, 10 and 0: the ways out of `serve`
-module _ (n : ℕ) (p i : List ℕ) (v : List Float) (bi : List ℕ) (bv : List Float) (old : Stored) where
-  abbrev a : Matrix
-  a = matrix n n p i v
-
-  abbrev b : Vector
-  b = vector n bi bv
-
+module _ (a : Matrix) (b : Vector) (old : Stored) where
   abbrev l : List ℕ
   l = reached a.pattern b.i
 
@@ -102,59 +98,54 @@ module _ (n : ℕ) (p i : List ℕ) (v : List Float) (bi : List ℕ) (bv : List 
   abbrev pub Served : Solved → Stored → Type 0
   Served r new = (r ≡ answer m (first_or 0 (lacking_reached a b))) × (new ≡ outputs m (written (solution a b) old) old)
 
-  count-within : length l ≤ n
+  count-within : length l ≤ a.pattern.ncols
   unfolding reached
-  count-within = below-within a.pattern b.i n
+  count-within = below-within a.pattern b.i a.pattern.ncols
 
-  short-is : n ≤ 65535 → short (solution a b) old ≡ (ltb (length old.i) (length l) || ltb (length old.v) (length l))
+  short-is : a.pattern.ncols ≤ 65535 → short (solution a b) old ≡ (ltb (length old.i) (length l) || ltb (length old.v) (length l))
   unfolding short solution
   short-is h = rw (le-ltb 4194304 (length l) (omega (arith, count-within)), length-map l (λ (j : ℕ). get_or (steps a b) j nan))
 
-  module _ (h : n ≤ 65535) {c : ℕ} (e : c ≡ length l) where
-    refused_7 : (ltb (length old.i) (length l) || ltb (length old.v) (length l)) ≡ true → Served (record { number = 7; column = 0 }) old
+  module _ {w₀ : List ℕ} {x : List Float} (ask : Ready a b w₀ x) {c : ℕ} (e : c ≡ length l) where
+    refused_7 : (ltb (length old.i) (length l) || ltb (length old.v) (length l)) ≡ true → Served (solved 7 0) old
     unfolding later answer outputs
-    refused_7 t = rw (short-is h, t) (refl, refl)
+    refused_7 t = rw (short-is ask.valid.pattern.cols, t) (refl, refl)
 
-    pub at_7_i : length old.i < c → Served (record { number = 7; column = 0 }) old
-    at_7_i g = refused_7 (rw (lt-ltb (length old.i) (length l) (omega (arith, e))))
+    pub at_7 : (length old.i < c) ⊎ ((c ≤ length old.i) × (length old.v < c)) → Served (solved 7 0) old
+    at_7 g = refused_7 (grind (arith, nat_tests))
 
-    pub at_7_v : c ≤ length old.i → length old.v < c → Served (record { number = 7; column = 0 }) old
-    at_7_v f g = refused_7 (rw (le-ltb (length old.i) (length l) (omega (arith, e)), lt-ltb (length old.v) (length l) (omega (arith, e))))
-
-    module _ (f : c ≤ length old.i) (g : c ≤ length old.v) (w : List ℕ) (u : marks n w ≡ l) where
+    module _ (f : c ≤ length old.i) (g : c ≤ length old.v) (w : List ℕ) (u : marks a.pattern.ncols w ≡ l) where
       roomy : short (solution a b) old ≡ false
-      roomy = short-is h ∙ (rw (le-ltb (length old.i) (length l) (omega (arith, e)), le-ltb (length old.v) (length l) (omega (arith, e))))
+      roomy = short-is ask.valid.pattern.cols ∙ (rw (
+        le-ltb (length old.i) (length l) (omega (arith, e)),
+        le-ltb (length old.v) (length l) (omega (arith, e)),
+      ))
 
-      pub room : {x : List Float} → n ≤ length w → n ≤ length x → Room n w x old.i old.v
-      room j k = record { small = h; w_long = j; x_long = k; in_i = rw u (omega (arith, e)); in_v = rw u (omega (arith, e)) }
-
-      module _ {q : ℕ} (d : Found n (keep (lacking a) l) (first_or 0 (keep (lacking a) l)) q) where
-        lacks : Found n (lacking_reached a b) (first_or 0 (lacking_reached a b)) q
+      module _ (q : Option ℕ) (d : Names a.pattern.ncols (keep (lacking a) l) (first_or 0 (keep (lacking a) l)) q) where
+        lacks : Names a.pattern.ncols (lacking_reached a b) (first_or 0 (lacking_reached a b)) q
         unfolding lacking_reached
         lacks = d
 
-        pub at_10 : q < n → Served (record { number = 10; column = q }) old
+        pub at_10 : {j : ℕ} → q ≡ Some j → Served (solved 10 j) old
         unfolding later answer outputs
-        at_10 k = let t = lacks.found k in rw (roomy, t.0) ((λ z. record { number = 10; column = t.1 z }), refl)
+        at_10 k = let s = lacks in let t = rw k at s in rw (roomy, t.0) ((λ z. solved 10 (t.1 z)), refl)
 
-        pub at-end : {x x1 : List Float} {xi : List ℕ} {xv : List Float} → n ≤ q → x ≡ replicate n none → x1 ≡ over put_at bi bv x
-            → xi ≡ onto old.i (marks n w) → xv ≡ onto old.v (values_of (along (forward_column a) (marks n w) x1) (marks n w)) →
-            Served (record { number = 0; column = 0 }) (stored xi xv)
+        pub at-end : {x1 : List Float} {xi : List ℕ} {xv : List Float} → q ≡ None → x1 ≡ over put_at b.i b.v x
+            → xi ≡ onto old.i (marks a.pattern.ncols w)
+            → xv ≡ onto old.v (values_of (along (forward_column a) (marks a.pattern.ncols w) x1) (marks a.pattern.ncols w)) →
+            Served (solved 0 0) (stored xi xv)
         unfolding later answer outputs written solution steps right
-        at-end k z s r o = rw (roomy, lacks.none k) (refl, both_are (r ∙ (rw u)) (o ∙ (rw (s, z, u))))
+        at-end k s r o = let c = lacks in rw (roomy, rw k at c) (refl, both_are (r ∙ (rw u)) (o ∙ (rw (s, ask.zeros, u, ← ask.square))))
           where
             both_are : {i i' : List ℕ} {v v' : List Float} → i ≡ i' → v ≡ v' → stored i v ≡ stored i' v'
             both_are r o = λ k. stored (r k) (o k)
 
 -- ---- what 7, 10 and 0 leave
-late_leaves : (n : ℕ) (p i : List ℕ) (v : List Float) (bi : List ℕ) (bv : List Float) (old : Lent Stored) {new : Stored} {s : Scratch}
-    → (let m = lowest (later (matrix n n p i v) (vector n bi bv) old.out) in let w = written (solution (matrix n n p i v) (vector n bi bv)) old.out in
-    new ≡ outputs m w old.out → s ≡ wiped (n + 1) old.work → lent new s ≡ leaves m (n + 1) w old)
+late_leaves : (a : Matrix) (b : Vector) (n : ℕ) (old : Lent Stored) {new : Stored} {s : Scratch} →
+    (let m = lowest (later a b old.out) in let w = written (solution a b) old.out in
+    new ≡ outputs m w old.out → s ≡ wiped n old.work → lent new s ≡ leaves m n w old)
 unfolding leaves worked later
-late_leaves n p i v bi bv old e f =
-    let a = matrix n n p i v in
-    let b = vector n bi bv in
-    rw (late (short (solution a b) old.out) (some (lacking_reached a b))) (λ k. lent (e k) (f k))
+late_leaves a b n old e f = rw (late (short (solution a b) old.out) (some (lacking_reached a b))) (λ k. lent (e k) (f k))
   where
     late : (s t : Bool) → (ltb 0 (cond s 7 (cond t 10 0)) && ltb (cond s 7 (cond t 10 0)) 7) ≡ false
     late true t = refl
@@ -179,13 +170,14 @@ module _ (n : ℕ) (work : Scratch) {t : Bool} (f : t ≡ narrow (n + 1) work) (
 
   pub ready : (k : ℕ) (p i : List ℕ) (v : List Float) (bi : List ℕ) (bv : List Float) {r : ℕ} →
       r ≡ lowest (judged_cs (matrix k n p i v) (vector k bi bv)) → r ≡ 0
-      → Ready n p i v bi bv (part 0 n s.w1) (part 0 n s.x)
+      → Ready (matrix k n p i v) (vector k bi bv) (part 0 n s.w1) (part 0 n s.x)
   ready k p i v bi bv e h =
       let w = not_narrow (n + 1) work (sym f ∙ g) in
-      let c = passed k n p i v bi bv e h in
+      let c = passed (matrix k n p i v) (vector k bi bv) e h in
       record {
-        valid = c.square;
+        valid = c.valid;
         side = c.side;
+        square = c.square;
         clean = rw w1_is (front-zeros 0 n (n + 1) work.w1 (omega arith) w.in_w1);
         zeros = rw x_is (front-zeros none n (n + 1) work.x (omega arith) w.in_x);
       }
@@ -203,12 +195,16 @@ module _ (n : ℕ) (work : Scratch) {t : Bool} (f : t ≡ narrow (n + 1) work) (
       (omega (arith, lz, length_part 0 n s.x (omega (arith, x_long)))) ∙ (rw x_is (cleared-again none (n + 1) work.x)))
 
 -- ---- what is promised besides
-promised : {n : ℕ} {p i : List ℕ} {v : List Float} {bi : List ℕ} {bv : List Float} → Valid (matrix n n p i v) → ValidVector (vector n bi bv) →
+promised : {k n : ℕ} {p i : List ℕ} {v : List Float} {bi : List ℕ} {bv : List Float} → Valid (matrix k n p i v) → ValidVector (vector k bi bv)
+    → k ≡ n →
     ((k : ℕ) → T (fits binary64 (get_or bv k nan)))
-    → Promised (matrix n n p i v) (vector n bi bv)
+    → Promised (matrix k n p i v) (vector k bi bv)
 unfolding solution
-promised {n} {p} {i} {v} {bi} {bv} a b f =
-    record { reach = reaches_least (pattern n n p i) bi a.pattern refl (λ k m. member_below n bi b.below k m); dense = agrees n p i v bi bv a b f }
+promised {k} {n} {p} {i} {v} {bi} {bv} a b e f =
+    let a = rw e at a in
+    let b = rw e at b in
+    rw e
+    (record { reach = reaches_least (pattern n n p i) bi a.pattern refl (λ k m. member_below n bi b.below k m); dense = agrees n p i v bi bv a b f })
 
 -- ---- the ways out of the call
 module _ (k n : ℕ) (p i : List ℕ) (v : List Float) (bi : List ℕ) (bv : List Float) (old : Lent Stored) where
@@ -223,7 +219,7 @@ module _ (k n : ℕ) (p i : List ℕ) (v : List Float) (bi : List ℕ) (bv : Lis
       (new ≡ leaves (number A B old) (needed A.pattern) (written (solution A B) old.out) old) × (number A B old ≡ 0 → Promised A B)
 
   -- by 1 to 6 all is as it was
-  refused : (r : ℕ) → 0 < r → r < 7 → r ≡ number A B old → Answer (record { number = r; column = 0 }) old
+  refused : (r : ℕ) → 0 < r → r < 7 → r ≡ number A B old → Answer (solved r 0) old
   unfolding answer
   refused r g h e = rw (← e, ne_eqb r 10 (λ q. omega arith)) (
     refl,
@@ -232,7 +228,7 @@ module _ (k n : ℕ) (p i : List ℕ) (v : List Float) (bi : List ℕ) (bv : Lis
   )
 
   module _ {r : ℕ} (e : r ≡ lowest (judged_cs A B)) where
-    pub at_check : (r ≡ 0 → ⊥) → Answer (record { number = r; column = 0 }) old
+    pub at_check : (r ≡ 0 → ⊥) → Answer (solved r 0) old
     unfolding number
     at_check h = refused r (above r h) (omega (arith, below_7 (judged_cs A B) (early_cs A B))) (first (judged_cs A B) _ e h)
       where
@@ -243,13 +239,13 @@ module _ (k n : ℕ) (p i : List ℕ) (v : List Float) (bi : List ℕ) (bv : Lis
     module _ (h : r ≡ 0) {t : Bool} (f : t ≡ narrow (n + 1) old.work) where
       need_is : needed A.pattern ≡ n + 1
       unfolding needed
-      need_is = omega (arith, (passed k n p i v bi bv e h).same)
+      need_is = omega (arith, (passed A B e h).square)
 
       after_5 : lowest ((6, narrow (n + 1) old.work) ∷ later A B old.out) ≡ number A B old
       unfolding number
       after_5 = rw (← need_is) (then (judged_cs A B) ((6, narrow (needed A.pattern) old.work) ∷ later A B old.out) (early_cs A B) e h)
 
-      pub at_6 : t ≡ true → Answer (record { number = 6; column = 0 }) old
+      pub at_6 : t ≡ true → Answer (solved 6 0) old
       at_6 g = refused 6 (omega arith) (omega arith) ((rw (← f, g)) ∙ after_5)
 
       module _ (g : t ≡ false) {s : Scratch} (q : s ≡ wiped (n + 1) old.work) where
@@ -257,14 +253,14 @@ module _ (k n : ℕ) (p i : List ℕ) (v : List Float) (bi : List ℕ) (bv : Lis
         after_6 = (rw (← f, g)) ∙ after_5
 
         pub at_served : ((k : ℕ) → T (fits binary64 (get_or bv k nan))) → {r' : Solved} {new : Stored} {w : List ℕ} (x : List ℕ) {y : List Float}
-            (z : List Float) → Served n p i v bi bv old.out r' new
+            (z : List Float) → Served A B old.out r' new
             → length x ≡ length (part 0 n s.w1) → length z ≡ length (part 0 n s.x) → w ≡ cleared 0 (n + 1) (placed 0 n s.w1 x) →
             y ≡ cleared none (n + 1) (placed 0 n s.x z)
             → Answer r' (lent new (scratch w s.w2 s.w3 y))
         at_served known x z sv lx lz ew ey =
-            let c = passed k n p i v bi bv e h in
-            rw (← after_6, need_is, c.same) (
+            let c = passed A B e h in
+            rw (← after_6, need_is) (
               sv.0,
-              late_leaves n p i v bi bv old sv.1 (wiped-is n old.work f g q x z lx lz ew ey),
-              λ z. promised c.square c.side known,
+              late_leaves A B (n + 1) old sv.1 (wiped-is n old.work f g q x z lx lz ew ey),
+              λ z. promised c.valid c.side c.square known,
             )

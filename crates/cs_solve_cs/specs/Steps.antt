@@ -3,7 +3,7 @@ use Rattle.std.specs.Prelude.{Bool, not, cond, List, ◌≡◌, ℕ, ◌≤◌, 
 use Rattle.lists.specs.Calls.{none}
 use Rattle.lists.specs.Choices.{chosen}
 use Rattle.lists.specs.Folds.{along}
-use Rattle.cs_matrix.specs.Matrix.{matrix, vector, Valid, ValidVector}
+use Rattle.cs_matrix.specs.Matrix.{Matrix, Vector, Valid, ValidVector}
 
 -- a mark at row r, where it is not below `from`
 unfoldable pub mark_at : ℕ → ℕ → List ℕ → List ℕ
@@ -20,12 +20,13 @@ marked w k = not (eqb (get_or w k 0) 0)
 unfoldable pub marks : ℕ → List ℕ → List ℕ
 marks n w = chosen n (marked w)
 
--- what `serve` asks: a valid matrix and right side, and scratch that is cleared
-pub record Ready (n : ℕ) (p i : List ℕ) (v : List Float) (bi : List ℕ) (bv : List Float) (w : List ℕ) (x : List Float) : Type 0 where
-  pub valid : Valid (matrix n n p i v)
-  pub side : ValidVector (vector n bi bv)
-  pub clean : w ≡ replicate n 0
-  pub zeros : x ≡ replicate n none
+-- what `serve` asks: a valid square matrix and right side, and scratch that is cleared
+pub record Ready (a : Matrix) (b : Vector) (w : List ℕ) (x : List Float) : Type 0 where
+  pub valid : Valid a
+  pub side : ValidVector b
+  pub square : b.n ≡ a.pattern.ncols
+  pub clean : w ≡ replicate a.pattern.ncols 0
+  pub zeros : x ≡ replicate a.pattern.ncols none
 
 -- what `forward` asks besides: marks and values, and room for the marked places
 pub record Room (n : ℕ) (w : List ℕ) (x : List Float) (xi : List ℕ) (xv : List Float) : Type 0 where

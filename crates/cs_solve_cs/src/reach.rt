@@ -1,11 +1,15 @@
 // The reached set, as marks: one rising pass over them gives the least set, in order, and looks at its diagonals.
 ghost use Rattle.std.specs.Prelude.{◌≡◌, length, replicate};
-ghost use Rattle.lists.specs.Choices.{Found, first_or, keep};
-ghost use Rattle.cs_matrix.specs.Matrix.{matrix, pattern, Valid};
+ghost use Rattle.lists.specs.Choices.{first_or, keep};
+ghost use Rattle.cs_matrix.specs.Lent.{matrix_of};
+ghost use Rattle.cs_matrix.specs.Matrix.{Valid};
 ghost use Rattle.cs_solve.specs.Diagonal.{lacking};
+ghost use Rattle.cs_solve.specs.Judge.{Names};
 ghost use Rattle.cs_solve_cs.specs.Reach.{reached};
 ghost use Rattle.cs_solve_cs.specs.Steps.{mark_all, marks};
 
+use crate::steps::column;
+use cs_matrix::matrix::Matrix;
 use cs_solve::diagonal::value_at;
 use lists::numbers::wide;
 
@@ -13,46 +17,41 @@ use lists::numbers::wide;
 fn mark(from: usize, rows: &[u32], w: &mut [u32])
     ensures { w.new ≡ mark_all from rows.now w.old }
 {
-    let mut k = 0;
-    while k < rows.len() {
-        let r = wide(rows[k]);
+    for &row in rows {
+        let r = wide(row);
         if from <= r && r < w.len() {
             w[r] = 1;
         }
-        k += 1;
     }
 }
 
-// How many columns are reached, and the lowest of them whose diagonal is absent or zero, or n.
+// How many columns are reached, and the lowest of them whose diagonal is absent or zero.
 #[derive(Clone, Copy)]
 pub struct Swept {
     pub count: usize,
-    pub lacking: usize,
+    pub lacking: Option<usize>,
 }
 
 // Marks what the right side's rows reach, counts it, and looks at its diagonals.
-pub fn reach(n: usize, p: &[u32], i: &[u32], v: &[f64], bi: &[u32], w: &mut [u32]) -> Swept
-    requires { Valid (matrix n n p.now i.now v.now) × (w.old ≡ replicate n 0) }
-    ensures { let l = reached (pattern n n p.now i.now) bi.now in
-        let bad = keep (lacking (matrix n n p.now i.now v.now)) l in
-        (marks n w.new ≡ l) × (result.count ≡ length l) × Found n bad (first_or 0 bad) result.lacking }
+pub fn reach(a: Matrix<'_>, bi: &[u32], w: &mut [u32]) -> Swept
+    requires { Valid (matrix_of a) × (w.old ≡ replicate a.pattern.ncols 0) }
+    ensures { let a = matrix_of a.entry in
+        let l = reached a.pattern bi.now in
+        let bad = keep (lacking a) l in
+        (marks a.pattern.ncols w.new ≡ l) × (result.count ≡ length l) × Names a.pattern.ncols bad (first_or 0 bad) result.lacking }
 {
     mark(0, bi, w);
     let mut count = 0;
-    let mut lacking = n;
-    for j in 0..n {
+    let mut lacking = None;
+    for j in 0..a.pattern.ncols {
         if w[j] != 0 {
             count += 1;
-            let a = wide(p[j]);
-            let e = wide(p[j + 1]);
-            if n <= lacking && value_at(j, &i[a..e], &v[a..e]) == 0.0 {
-                lacking = j;
+            let (rows, vals) = column(a, j);
+            if lacking.is_none() && value_at(j, rows, vals) == 0.0 {
+                lacking = Some(j);
             }
-            mark(j + 1, &i[a..e], w);
+            mark(j + 1, rows, w);
         }
     }
-    Swept {
-        count: count,
-        lacking: lacking,
-    }
+    Swept { count, lacking }
 }

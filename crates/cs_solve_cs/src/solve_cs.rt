@@ -2,7 +2,9 @@
 ghost use Rattle.std.specs.Prelude.{◌≡◌};
 ghost use Rattle.lists.specs.Calls.{lowest, leaves, lent, scratch, outputs};
 ghost use Rattle.lists.specs.Choices.{first_or};
-ghost use Rattle.cs_matrix.specs.Matrix.{matrix, vector, needed};
+ghost use Rattle.lists.specs.Refusals.{numbered};
+ghost use Rattle.cs_matrix.specs.Lent.{matrix_of, vector_of};
+ghost use Rattle.cs_matrix.specs.Matrix.{vector, needed};
 ghost use Rattle.cs_solve.specs.Judge.{answer};
 ghost use Rattle.cs_solve_cs.specs.Agree.{Promised};
 ghost use Rattle.cs_solve_cs.specs.SolveCs.{judged_cs, stored, written, solution, later, lacking_reached, number};
@@ -11,78 +13,55 @@ ghost use Rattle.cs_solve_cs.specs.Steps.{Ready};
 use crate::reach::reach;
 use crate::steps::{forward, put};
 use cs_matrix::check::{check, check_vector};
+use cs_matrix::matrix::{Matrix, Pattern, Vector};
 use cs_solve::Solved;
-use lists::clear::{clear, clear_scratch, clear_values, too_narrow};
-use lists::numbers::lower;
+use lists::clear::{clear_scratch, fill, too_narrow};
+use lists::refusal::{Refusal, lower};
 
-// The lowest of 1 to 5 that applies, else 0.
-fn judge(nrows: usize, ncols: usize, p: &[u32], i: &[u32], v: &[f64], bi: &[u32], bv: &[f64]) -> u32
-    ensures { result ≡ lowest (judged_cs (matrix nrows ncols p.now i.now v.now) (vector nrows bi.now bv.now)) }
+// What refuses a matrix with a right side first: 1 to 5, or nothing.
+fn judge(a: Matrix<'_>, b: Vector<'_>) -> Result<(), Refusal>
+    ensures { numbered result ≡ lowest (judged_cs (matrix_of a.entry) (vector_of b.entry)) }
 {
-    let matrix = check(nrows, ncols, p, i, v);
-    let side = check_vector(nrows, bi, bv);
-    let refused = lower(matrix, side);
+    let Pattern { nrows, ncols, .. } = a.pattern;
+    let refused = lower(check(a), check_vector(b));
     if nrows != ncols {
-        return lower(refused, 2);
+        return lower(refused, Err(Refusal::Disagree));
     }
     refused
 }
 
-// 7, 10 or the result, on scratch of n elements that is cleared.
+// 7, 10 or the result, on scratch of as many elements as there are columns, which is cleared.
 fn serve(
-    n: usize,
-    p: &[u32],
-    i: &[u32],
-    v: &[f64],
-    bi: &[u32],
-    bv: &[f64],
+    a: Matrix<'_>,
+    b: Vector<'_>,
     xi: &mut [u32],
     xv: &mut [f64],
     w: &mut [u32],
     x: &mut [f64],
 ) -> Solved
-    requires { Ready n p.now i.now v.now bi.now bv.now w.old x.old }
-    ensures { let a = matrix n n p.now i.now v.now in
-        let b = vector n bi.now bv.now in
+    requires { Ready (matrix_of a) (vector_of b) w.old x.old }
+    ensures { let a = matrix_of a.entry in
+        let b = vector_of b.entry in
         let old = stored xi.old xv.old in
         let new = stored xi.new xv.new in
         let m = lowest (later a b old) in
         (result ≡ answer m (first_or 0 (lacking_reached a b))) × (new ≡ outputs m (written (solution a b) old) old) }
 {
-    let found = reach(n, p, i, v, bi, w);
-    if xi.len() < found.count {
-        return Solved {
-            number: 7,
-            column: 0,
-        };
+    let found = reach(a, b.i, w);
+    if xi.len() < found.count || xv.len() < found.count {
+        return Solved::refused(Refusal::NoRoom);
     }
-    if xv.len() < found.count {
-        return Solved {
-            number: 7,
-            column: 0,
-        };
+    if let Some(column) = found.lacking {
+        return Solved::lacking(column as u32);
     }
-    if found.lacking < n {
-        return Solved {
-            number: 10,
-            column: found.lacking as u32,
-        };
-    }
-    put(bi, bv, x);
-    forward(n, p, i, v, w, x, xi, xv);
-    Solved {
-        number: 0,
-        column: 0,
-    }
+    put(b.i, b.v, x);
+    forward(a, w, x, xi, xv);
+    Solved::DONE
 }
 
 // Solves with the lower triangle of a matrix, the right side bi and bv, the result in xi and xv.
 pub fn solve_lower_triangular_cs(
-    nrows: usize,
-    ncols: usize,
-    p: &[u32],
-    i: &[u32],
-    v: &[f64],
+    a: Matrix<'_>,
     bi: &[u32],
     bv: &[f64],
     xi: &mut [u32],
@@ -92,41 +71,29 @@ pub fn solve_lower_triangular_cs(
     w3: &mut [u32],
     x: &mut [f64],
 ) -> Solved
-    ensures { let a = matrix nrows ncols p.now i.now v.now in
-        let b = vector nrows bi.now bv.now in
+    ensures { let a = matrix_of a.entry in
+        let b = vector a.pattern.nrows bi.now bv.now in
         let old = lent (stored xi.old xv.old) (scratch w1.old w2.old w3.old x.old) in
         let new = lent (stored xi.new xv.new) (scratch w1.new w2.new w3.new x.new) in
         (result ≡ answer (number a b old) (first_or 0 (lacking_reached a b))) ×
         (new ≡ leaves (number a b old) (needed a.pattern) (written (solution a b) old.out) old) × (number a b old ≡ 0 → Promised a b) }
 {
-    let refused = judge(nrows, ncols, p, i, v, bi, bv);
-    if refused != 0 {
-        return Solved {
-            number: refused,
-            column: 0,
-        };
+    let Pattern { nrows, ncols, .. } = a.pattern;
+    let b = Vector {
+        n: nrows,
+        i: bi,
+        v: bv,
+    };
+    if let Err(refusal) = judge(a, b) {
+        return Solved::refused(refusal);
     }
     let need = ncols + 1;
     if too_narrow(need, w1, w2, w3, x) {
-        return Solved {
-            number: 6,
-            column: 0,
-        };
+        return Solved::refused(Refusal::NoScratch);
     }
     clear_scratch(need, w1, w2, w3, x);
-    let served = serve(
-        ncols,
-        p,
-        i,
-        v,
-        bi,
-        bv,
-        xi,
-        xv,
-        &mut w1[0..ncols],
-        &mut x[0..ncols],
-    );
-    clear(need, w1);
-    clear_values(need, x);
+    let served = serve(a, b, xi, xv, &mut w1[0..ncols], &mut x[0..ncols]);
+    fill(0, need, w1);
+    fill(0.0, need, x);
     served
 }

@@ -1,6 +1,6 @@
 -- Columns that have the same rows: how that is told, and their sum, which has those rows. Assumes nothing.
 use mathlib.Core.Path.{◌≡◌, refl, sym, ap, ◌∙◌}
-use mathlib.Core.Bool.{true, false}
+use mathlib.Core.Bool.{true}
 use mathlib.Core.List.{List, map, append-nil}
 use mathlib.Core.Logic.{inl}
 use Prim.Native.Nat.{ℕ, zero, suc, ◌+◌, ◌-◌, ◌≤◌, ◌<◌}
@@ -10,7 +10,7 @@ use lib.Dec.{eqb}
 use lib.Ieee.{Float, nan, binary64, add, mul}
 use lib.ListN.{length, get_or, set, take, length-map, get_or-map}
 use lib.Seq.{take-suc, take_all, length-take-le}
-use borrow.Author.Tests.{eqb-true, eq-eqb, ne_eqb}
+use borrow.Author.Tests.{eqb-true}
 use Rattle.lists.specs.Calls.{onto}
 use Rattle.lists.specs.Choices.{chosen}
 use Rattle.lists.specs.Order.{starts_with}
@@ -31,14 +31,6 @@ use Rattle.cs_sum.proofs.Merged.{given, of_both}
 
 -- ---- `same_rows`
 module _ (l m : List ℕ) where
-  pub longer : (length l ≡ length m → ⊥) → false ≡ same_rows l m
-  unfolding same_rows
-  longer h = rw (ne_eqb (length l) (length m) h)
-
-  pub as_long : length l ≡ length m → starts_with l m ≡ same_rows l m
-  unfolding same_rows
-  as_long h = rw (eq-eqb (length l) (length m) h)
-
   pub same_are : same_rows l m ≡ true → l ≡ m
   unfolding same_rows
   same_are h =

@@ -1,41 +1,32 @@
 -- The loops of `count` and `fill`, and the ways out of `sum`. Assumes nothing.
 use mathlib.Core.Path.{◌≡◌, refl, sym, ap as cong, ◌∙◌}
-use mathlib.Core.Bool.{Bool, true, false, not}
+use mathlib.Core.Bool.{Bool, false, not, cond}
 use mathlib.Core.List.{List, [], ◌∷◌, map}
 use Prim.Native.Nat.{ℕ, ◌+◌, ◌≤◌, ◌<◌}
 use native.Mathlib.Omega.{arith}
 use lib.Dec.{eqb}
 use lib.Ieee.{Float}
 use lib.ListN.{length, get_or, set, length-map}
-use borrow.Author.Tests.{eq-eqb, ne_eqb, eqb-true}
+use borrow.Author.Tests.{eqb-true}
 use Rattle.lists.specs.Calls.{lowest, outputs}
 use Rattle.lists.specs.Choices.{chosen}
 use Rattle.lists.specs.Parts.{part}
-use Rattle.lists.proofs.Bools.{or-false, not_holds, failed}
+use Rattle.lists.proofs.Bools.{or-false, not_holds, passed_over}
 use Rattle.lists.proofs.Calls.{first, then, below_7, left_alone, left-written}
 use Rattle.lists.proofs.Parts.{length_part}
 use Rattle.lists.proofs.Tables.{length-table}
-use Rattle.cs_matrix.specs.Matrix.{Matrix, matrix, Stored, stored, column, short, written, Valid}
+use Rattle.cs_matrix.specs.Matrix.{Matrix, Stored, stored, column, short, written, Valid}
 use Rattle.cs_matrix.proofs.Pointers.{Between, between, column-is, length-column, get_or-column, last-at}
 use Rattle.cs_columns.specs.Columns.{joined, with_columns, with_entries, either, laid, judged_two, short_for}
 use Rattle.cs_columns.proofs.Filling.{Filling, filling_start, filling_turn, filling_end, filling_at, filling_i, filling_v, room_i, room_v, room_p}
 use Rattle.cs_columns.proofs.Filling.{room-all}
 use Rattle.cs_columns.proofs.Joining.{joined-none, length_more, joined-steps, joined_alike, entries-within, entries_valid}
-use Rattle.cs_columns.proofs.Judging.{early_two, Passed, passed, Roomy, roomy, short_fewer, short_for_lem}
+use Rattle.cs_columns.proofs.Judging.{alone_7, early_two, Passed, passed, Roomy, roomy, short_fewer, short_for_lem}
 use Rattle.cs_columns.proofs.Merging.{either-most}
-use Rattle.cs_columns.specs.Columns.{Operands}
-use Rattle.cs_sum.specs.Steps.{Risen, Column, Ready}
+use Rattle.cs_sum.specs.Steps.{Risen, Column, Alike, Ready}
 use Rattle.cs_sum.specs.Sum.{summed_at, row_of, value_of, sum, differ, number}
 
 -- ---- `differ`
-pub differ-rows : (n m k l : ℕ) → (n ≡ k → ⊥) → true ≡ differ n m k l
-unfolding differ
-differ-rows n m k l h = rw (ne_eqb n k h)
-
-pub differ_cols : (n m k l : ℕ) → n ≡ k → not (eqb m l) ≡ differ n m k l
-unfolding differ
-differ_cols n m k l h = rw (eq-eqb n k h)
-
 same_dimensions : (n m k l : ℕ) → differ n m k l ≡ false → (n ≡ k) × (m ≡ l)
 unfolding differ
 same_dimensions n m k l h = let x = or-false (not (eqb n k)) _ h in (eqb-true n k (not_holds _ x.0), eqb-true m l (not_holds _ x.1))
@@ -48,12 +39,30 @@ column-below {a} v j h k l =
     rw (get_or-column a.pattern.p j a.pattern.i k 0 (omega (arith, n)))
     (v.pattern.below (get_or a.pattern.p j 0 + k) (omega (arith, n)))
 
-module _ (nrows ncols : ℕ) (ap ai : List ℕ) (av : List Float) (bp bi : List ℕ) (bv : List Float) where
-  abbrev a : Matrix
-  a = matrix nrows ncols ap ai av
+module _ (a b : Matrix) where
+  abbrev nrows : ℕ
+  nrows = a.pattern.nrows
 
-  abbrev b : Matrix
-  b = matrix nrows ncols bp bi bv
+  abbrev ncols : ℕ
+  ncols = a.pattern.ncols
+
+  abbrev ap : List ℕ
+  ap = a.pattern.p
+
+  abbrev ai : List ℕ
+  ai = a.pattern.i
+
+  abbrev av : List Float
+  av = a.v
+
+  abbrev bp : List ℕ
+  bp = b.pattern.p
+
+  abbrev bi : List ℕ
+  bi = b.pattern.i
+
+  abbrev bv : List Float
+  bv = b.v
 
   abbrev pub rows : ℕ → List ℕ
   rows j = chosen nrows (row_of a b j)
@@ -68,14 +77,14 @@ module _ (nrows ncols : ℕ) (ap ai : List ℕ) (av : List Float) (bp bi : List 
     pub a_vals : e ≤ length av
     pub b_vals : d ≤ length bv
 
-  pub handed : Operands a b → {j x e c d : ℕ} → j < ncols → x ≡ get_or ap j 0 → e ≡ get_or ap (j + 1) 0 → c ≡ get_or bp j 0 →
+  pub handed : Alike a b → {j x e c d : ℕ} → j < ncols → x ≡ get_or ap j 0 → e ≡ get_or ap (j + 1) 0 → c ≡ get_or bp j 0 →
       d ≡ get_or bp (j + 1) 0 → Handed j x e c d
   handed v h f g k l =
       let s = between v.first.pattern.ptrs v.first.pattern.p_long h f g in
-      let t = between v.second.pattern.ptrs v.second.pattern.p_long h k l in
+      let t = between v.second.pattern.ptrs v.second.pattern.p_long (omega (arith, v.cols)) k l in
       record { first = s; second = t; a_vals = omega (arith, s.inside, v.first.v_long); b_vals = omega (arith, t.inside, v.second.v_long) }
 
-  module _ (v : Operands a b) {j x e c d : ℕ} (h : j < ncols) (p : Handed j x e c d) where
+  module _ (v : Alike a b) {j x e c d : ℕ} (h : j < ncols) (p : Handed j x e c d) where
     a_rows : part x e ai ≡ column ap j ai
     a_rows = column-is p.first ai
 
@@ -96,9 +105,9 @@ module _ (nrows ncols : ℕ) (ap ai : List ℕ) (av : List Float) (bp bi : List 
         (record {
           small = v.first.pattern.rows;
           l_below = column-below v.first j (rw (← p.first.ends) p.first.inside);
-          m_below = column-below v.second j (rw (← p.second.ends) p.second.inside);
+          m_below = λ k l. omega (arith, v.rows, column-below v.second j (rw (← p.second.ends) p.second.inside) k l);
           l_up = v.first.pattern.rise j h;
-          m_up = v.second.pattern.rise j h;
+          m_up = v.second.pattern.rise j (omega (arith, v.cols));
         })
 
     a_alike : length (part x e av) ≡ length (part x e ai)
@@ -114,11 +123,11 @@ module _ (nrows ncols : ℕ) (ap ai : List ℕ) (av : List Float) (bp bi : List 
 
   -- ---- `count`
   pub record Tallying (places j : ℕ) : Type 0 where
-    pub ask : Operands a b
+    pub ask : Alike a b
     pub within : j ≤ ncols
     pub is : places ≡ length (joined rows j)
 
-  pub tallying_start : Operands a b → Tallying 0 0
+  pub tallying_start : Alike a b → Tallying 0 0
   tallying_start v = record { ask = v; within = omega arith; is = sym (cong length (joined-none rows)) }
 
   module _ {places j : ℕ} (s : Tallying places j) where
@@ -140,14 +149,15 @@ module _ (nrows ncols : ℕ) (ap ai : List ℕ) (av : List Float) (bp bi : List 
     pub tallying_done : ncols ≤ j → places ≡ length (joined rows ncols)
     tallying_done h = let e : j ≡ ncols = omega (arith, s.within) in s.is ∙ cong (λ (k : ℕ). length (joined rows k)) e
 
-  -- ---- `lacks_room`
-  module _ (v : Operands a b) where
+  -- ---- `check_room`
+  module _ (v : Alike a b) where
     -- a column takes no more than the entries of both
     column-most : (j : ℕ) → j < ncols → length (rows j) + (get_or ap j 0 + get_or bp j 0) ≤ get_or ap (j + 1) 0 + get_or bp (j + 1) 0
     unfolding row_of
     column-most j h =
         let s = between v.first.pattern.ptrs v.first.pattern.p_long h refl refl in
-        let t = between v.second.pattern.ptrs v.second.pattern.p_long h refl refl in
+        let k : j < b.pattern.ncols = omega (arith, v.cols) in
+        let t = between v.second.pattern.ptrs v.second.pattern.p_long k refl refl in
         omega (
           arith,
           either-most nrows (column ap j ai) (column bp j bi),
@@ -167,17 +177,16 @@ module _ (nrows ncols : ℕ) (ap ai : List ℕ) (av : List Float) (bp bi : List 
           s.ptrs.first,
           t.ptrs.first,
           last-at s.ptrs ncols s.p_long,
-          last-at t.ptrs ncols t.p_long,
+          last-at t.ptrs ncols (omega (arith, t.p_long, v.cols)),
         )
 
-    module _ (p i w : ℕ) {t : Bool} where
-      pub room_for_both : t ≡ short_for ncols (length ai + length bi) p i w → not t ≡ true → false ≡ short_for ncols (length (joined rows ncols)) p
-          i w
-      room_for_both e h = sym (short_fewer ncols (length ai + length bi) (length (joined rows ncols)) p i w (failed e h) places_most)
+    pub room_for_both : (p i w : ℕ) → false ≡ short_for ncols (length ai + length bi) p i w →
+        0 ≡ lowest ((7, short_for ncols (length (joined rows ncols)) p i w) ∷ [])
+    room_for_both p i w e = rw (short_fewer ncols (length ai + length bi) (length (joined rows ncols)) p i w (sym e) places_most)
 
-      pub room-counted : {places : ℕ} → places ≡ length (joined rows ncols) → t ≡ short_for ncols places p i w →
-          t ≡ short_for ncols (length (joined rows ncols)) p i w
-      room-counted f e = rw f at e
+  pub room-counted : (p i w : ℕ) {t : Bool} {places : ℕ} → places ≡ length (joined rows ncols) → t ≡ short_for ncols places p i w →
+      cond t 7 0 ≡ lowest ((7, short_for ncols (length (joined rows ncols)) p i w) ∷ [])
+  room-counted p i w f e = let g = rw f at e in rw g
 
   -- ---- `fill`
   pub record Writing (op₀ oi₀ : List ℕ) (ov₀ : List Float) (op oi : List ℕ) (ov : List Float) (at j : ℕ) : Type 0 where
@@ -261,64 +270,58 @@ module _ (a b : Matrix) where
   sum_valid h k m = entries_valid a.pattern.nrows a.pattern.ncols (row_of a b) (value_of a b) h k m
 
 -- ---- the ways out of `sum`
-module _ (n m : ℕ) (pa ia : List ℕ) (va : List Float) (k l : ℕ) (pb ib : List ℕ) (vb : List Float) (old : Stored) where
-  abbrev A : Matrix
-  A = matrix n m pa ia va
-
-  abbrev B : Matrix
-  B = matrix k l pb ib vb
-
-  -- the second once it is known to have the dimensions of the first
-  abbrev C : Matrix
-  C = matrix n m pb ib vb
+module _ (a b : Matrix) (old : Stored) where
+  abbrev apart : Bool
+  apart = differ a.pattern.nrows a.pattern.ncols b.pattern.nrows b.pattern.ncols
 
   abbrev pub Answer : ℕ → Stored → Type 0
-  Answer r new = (r ≡ number A B old) × (new ≡ outputs r (written (sum A B) old) old) × (r ≡ 0 → Valid (sum A B))
+  Answer r new = (r ≡ number a b old) × (new ≡ outputs r (written (sum a b) old) old) × (r ≡ 0 → Valid (sum a b))
 
-  module _ {apart : Bool} (d : apart ≡ differ n m k l) {r : ℕ} (c : r ≡ lowest (judged_two A B apart)) where
-    judged-is : r ≡ lowest (judged_two A B (differ n m k l))
+  module _ {t : Bool} (d : t ≡ apart) {r : ℕ} (c : r ≡ lowest (judged_two a b t)) where
+    judged-is : r ≡ lowest (judged_two a b apart)
     judged-is = rw d at c
 
     pub at_check : (r ≡ 0 → ⊥) → Answer r old
     unfolding number
-    at_check h =
-        let j = judged_two A B (differ n m k l) in
-        (first j _ judged-is h, left_alone r _ old h (λ z. omega (arith, below_7 j (early_two A B _), judged-is, z)), λ z. absurd (h z))
+    at_check h = (
+      first (judged_two a b apart) _ judged-is h,
+      left_alone r _ old h (λ z. omega (arith, below_7 (judged_two a b apart) (early_two a b _), judged-is, z)),
+      λ z. absurd (h z),
+    )
 
     module _ (z : r ≡ 0) where
-      pass : Passed A B (differ n m k l)
-      pass = passed A B (differ n m k l) judged-is z
+      pass : Passed a b apart
+      pass = passed a b apart judged-is z
 
-      same : C ≡ B
-      same = let s = same_dimensions n m k l pass.agree in λ q. matrix (s.0 q) (s.1 q) pb ib vb
+      pub alike : Alike a b
+      alike = let s = same_dimensions _ _ _ _ pass.agree in record { first = pass.first; second = pass.second; rows = s.0; cols = s.1 }
 
-      pub alike : Operands A C
-      alike = record { first = pass.first; second = rw same pass.second }
-
-      after_5 : lowest ((7, short (sum A B) old) ∷ []) ≡ number A B old
+      after_5 : lowest ((7, short (sum a b) old) ∷ []) ≡ number a b old
       unfolding number
-      after_5 = then (judged_two A B (differ n m k l)) _ (early_two A B _) judged-is z
+      after_5 = then (judged_two a b apart) _ (early_two a b _) judged-is z
 
-      module _ {t : Bool} (g : t ≡ short_for m (size A C) (length old.p) (length old.i) (length old.v)) where
-        size_is : size A B ≡ size A C
-        size_is = rw same
+      abbrev lacks : Bool
+      lacks = short_for a.pattern.ncols (size a b) (length old.p) (length old.i) (length old.v)
 
-        short-is : short (sum A B) old ≡ t
-        short-is = short_for_lem (sum A B) old m (size A C) (p_long A B) (i_long A B ∙ size_is) (v_long A B ∙ size_is) ∙ sym g
+      module _ {s : ℕ} (g : s ≡ lowest ((7, lacks) ∷ [])) where
+        after_6 : s ≡ number a b old
+        after_6 =
+            let e = short_for_lem (sum a b) old _ _ (p_long a b) (i_long a b) (v_long a b) in
+            g ∙ cong (λ (q : Bool). lowest ((7, q) ∷ [])) (sym e) ∙ after_5
 
-        pub at_7 : t ≡ true → Answer 7 old
-        at_7 h = (rw (← after_5, short-is, h), left_alone 7 _ old (λ q. omega arith) (λ q. omega arith), λ q. absurd (omega arith))
+        pub at_7 : (s ≡ 0 → ⊥) → Answer s old
+        at_7 h = (after_6, left_alone s _ old h (λ q. omega (arith, g, q, alone_7 lacks)), λ q. absurd (h q))
 
-        module _ (h : t ≡ false) where
-          room-is : Roomy m (size A C) (length old.p) (length old.i) (length old.v)
-          room-is = roomy m (size A C) (length old.p) (length old.i) (length old.v) (sym g ∙ h)
+        module _ (h : s ≡ 0) where
+          room-is : Roomy a.pattern.ncols (size a b) (length old.p) (length old.i) (length old.v)
+          room-is = roomy _ _ _ _ _ (passed_over lacks 6 0 (sym g ∙ h)).0
 
-          pub ready : Ready A C old
+          pub ready : Ready a b old
           ready = record { alike = alike; few = room-is.few; in_p = room-is.in_p; in_i = room-is.in_i; in_v = room-is.in_v }
 
-          pub at-end : {o : Stored} → o ≡ written (sum A C) old → Answer 0 o
+          pub at-end : {o : Stored} → o ≡ written (sum a b) old → Answer 0 o
           at-end e = (
-            rw (← after_5, short-is, h),
-            left-written _ old (rw same at e),
-            λ q. sum_valid A B pass.first.pattern.rows pass.first.pattern.cols (omega (arith, size_is, room-is.few)),
+            sym h ∙ after_6,
+            left-written _ old e,
+            λ q. sum_valid a b pass.first.pattern.rows pass.first.pattern.cols room-is.few,
           )

@@ -2,8 +2,8 @@
 use Rattle.std.specs.Prelude.{Bool, true, ◌&&◌, List, ◌≡◌, ℕ, ◌+◌, ◌<◌, ◌≤◌, eqb, Float, length, get_or}
 use Rattle.lists.specs.Choices.{chosen}
 use Rattle.lists.specs.Order.{rises, starts_with}
-use Rattle.cs_matrix.specs.Matrix.{Matrix, Stored}
-use Rattle.cs_columns.specs.Columns.{either, joined, Operands}
+use Rattle.cs_matrix.specs.Matrix.{Matrix, Stored, Valid}
+use Rattle.cs_columns.specs.Columns.{either, joined}
 use Rattle.cs_sum.specs.Sum.{row_of}
 
 -- two columns that rise, below the row count n
@@ -34,9 +34,16 @@ pub record Places (rows : List ℕ) (av bv : List Float) (oi : List ℕ) (ov : L
   pub i_alike : length oi ≡ length rows
   pub v_alike : length ov ≡ length rows
 
--- two valid matrices, and room for their sum
+-- two valid matrices of the same dimensions
+pub record Alike (a b : Matrix) : Type 0 where
+  pub first : Valid a
+  pub second : Valid b
+  pub rows : a.pattern.nrows ≡ b.pattern.nrows
+  pub cols : a.pattern.ncols ≡ b.pattern.ncols
+
+-- and room for their sum
 pub record Ready (a b : Matrix) (out : Stored) : Type 0 where
-  pub alike : Operands a b
+  pub alike : Alike a b
   pub few : length (joined (λ j. chosen a.pattern.nrows (row_of a b j)) a.pattern.ncols) ≤ 4194304
   pub in_p : a.pattern.ncols + 1 ≤ length out.p
   pub in_i : length (joined (λ j. chosen a.pattern.nrows (row_of a b j)) a.pattern.ncols) ≤ length out.i

@@ -9,13 +9,11 @@ ghost use Rattle.cs_sum.specs.Sum.{one};
 use lists::order::starts_with;
 
 // The two columns have the same rows.
+#[tactic(auto, unfolding(crate::specs::Steps::same_rows))]
 pub fn same_rows(a: &[u32], b: &[u32]) -> bool
     ensures { result ≡ same_rows a.now b.now }
 {
-    if a.len() != b.len() {
-        return false;
-    }
-    starts_with(a, b)
+    a.len() == b.len() && starts_with(a, b)
 }
 
 // The rows, and the sums of two columns' values at them.
@@ -24,10 +22,8 @@ pub fn add_values(rows: &[u32], av: &[f64], bv: &[f64], oi: &mut [u32], ov: &mut
     ensures { (oi.new ≡ rows.now)
         × (ov.new ≡ table (length rows.now) (λ k. add binary64 (mul binary64 (get_or av.now k nan) one) (mul binary64 (get_or bv.now k nan) one))) }
 {
-    let mut k = 0;
-    while k < rows.len() {
+    for k in 0..rows.len() {
         oi[k] = rows[k];
         ov[k] = av[k] * 1.0 + bv[k] * 1.0;
-        k += 1;
     }
 }

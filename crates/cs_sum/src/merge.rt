@@ -8,7 +8,7 @@ ghost use Rattle.cs_sum.specs.Sum.{summed_at};
 use crate::alike::{add_values, same_rows};
 use cs_columns::rows::row_at;
 
-// How many different rows two columns have.
+// How many different rows two columns have. A merge moves two positions apart, which no `for` counts.
 pub fn count_rows(nrows: usize, ai: &[u32], bi: &[u32]) -> usize
     requires { Risen nrows ai.now bi.now }
     ensures { result ≡ length (chosen nrows (either ai.now bi.now)) }

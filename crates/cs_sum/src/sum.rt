@@ -1,113 +1,95 @@
 // The sum: both operands are judged, the different places counted where the outputs may lack room, then each pair of columns merged.
-ghost use Rattle.std.specs.Prelude.{◌≡◌, length};
-ghost use Rattle.lists.specs.Calls.{outputs};
+ghost use Rattle.std.specs.Prelude.{[], ◌∷◌, ◌≡◌, length};
+ghost use Rattle.lists.specs.Calls.{lowest, outputs};
 ghost use Rattle.lists.specs.Choices.{chosen};
-ghost use Rattle.cs_matrix.specs.Matrix.{matrix, stored, written, Valid};
+ghost use Rattle.lists.specs.Refusals.{numbered};
+ghost use Rattle.cs_matrix.specs.Lent.{matrix_of};
+ghost use Rattle.cs_matrix.specs.Matrix.{stored, written, Valid};
 ghost use Rattle.cs_columns.specs.Columns.{joined, short_for};
-ghost use Rattle.cs_columns.specs.Columns.{Operands};
-ghost use Rattle.cs_sum.specs.Steps.{Ready};
+ghost use Rattle.cs_sum.specs.Steps.{Alike, Ready};
 ghost use Rattle.cs_sum.specs.Sum.{row_of, sum as sum_of, differ as differOf, number};
 
 use crate::merge::{count_rows, merge};
 use cs_columns::judge::{check_two, no_room};
+use cs_matrix::matrix::{Matrix, Pattern};
 use lists::numbers::wide;
+use lists::refusal::Refusal;
 
 // The dimensions of the two differ.
-fn differ(nrows: usize, ncols: usize, bnrows: usize, bncols: usize) -> bool
-    ensures { result ≡ differOf nrows ncols bnrows bncols }
+#[tactic(auto, unfolding(crate::specs::Sum::differ))]
+fn differ(a: Pattern<'_>, b: Pattern<'_>) -> bool
+    ensures { result ≡ differOf a.entry.nrows a.entry.ncols b.entry.nrows b.entry.ncols }
 {
-    if nrows != bnrows {
-        return true;
-    }
-    ncols != bncols
+    a.nrows != b.nrows || a.ncols != b.ncols
 }
 
 // The number of different places.
-fn count(
-    nrows: usize,
-    ncols: usize,
-    ap: &[u32],
-    ai: &[u32],
-    av: &[f64],
-    bp: &[u32],
-    bi: &[u32],
-    bv: &[f64],
-) -> usize
-    requires { Operands (matrix nrows ncols ap.now ai.now av.now) (matrix nrows ncols bp.now bi.now bv.now) }
-    ensures { let a = matrix nrows ncols ap.now ai.now av.now in
-        let b = matrix nrows ncols bp.now bi.now bv.now in
-        result ≡ length (joined (λ j. chosen nrows (row_of a b j)) ncols) }
+fn count(a: Matrix<'_>, b: Matrix<'_>) -> usize
+    requires { Alike (matrix_of a) (matrix_of b) }
+    ensures { let a = matrix_of a.entry in
+        let b = matrix_of b.entry in
+        result ≡ length (joined (λ j. chosen a.pattern.nrows (row_of a b j)) a.pattern.ncols) }
 {
+    let Pattern { nrows, ncols, p, i } = a.pattern;
+    let Pattern { p: bp, i: bi, .. } = b.pattern;
     let mut places = 0;
     for j in 0..ncols {
-        let a = wide(ap[j]);
-        let e = wide(ap[j + 1]);
-        let c = wide(bp[j]);
-        let d = wide(bp[j + 1]);
-        places += count_rows(nrows, &ai[a..e], &bi[c..d]);
+        let a_start = wide(p[j]);
+        let a_end = wide(p[j + 1]);
+        let b_start = wide(bp[j]);
+        let b_end = wide(bp[j + 1]);
+        places += count_rows(nrows, &i[a_start..a_end], &bi[b_start..b_end]);
     }
     places
 }
 
 // Number 7, by the lengths of the outputs. Room for the entries of both is room for the different places, which are then not counted.
-fn lacks_room(
-    nrows: usize,
-    ncols: usize,
-    ap: &[u32],
-    ai: &[u32],
-    av: &[f64],
-    bp: &[u32],
-    bi: &[u32],
-    bv: &[f64],
+fn check_room(
+    a: Matrix<'_>,
+    b: Matrix<'_>,
     plen: usize,
     ilen: usize,
     vlen: usize,
-) -> bool
-    requires { Operands (matrix nrows ncols ap.now ai.now av.now) (matrix nrows ncols bp.now bi.now bv.now) }
-    ensures { let a = matrix nrows ncols ap.now ai.now av.now in
-        let b = matrix nrows ncols bp.now bi.now bv.now in
-        result ≡ short_for ncols (length (joined (λ j. chosen nrows (row_of a b j)) ncols)) plen ilen vlen }
+) -> Result<(), Refusal>
+    requires { Alike (matrix_of a) (matrix_of b) }
+    ensures { let a = matrix_of a.entry in
+        let b = matrix_of b.entry in
+        let places = length (joined (λ j. chosen a.pattern.nrows (row_of a b j)) a.pattern.ncols) in
+        numbered result ≡ lowest ((7, short_for a.pattern.ncols places plen ilen vlen) ∷ []) }
 {
-    if !no_room(ncols, ai.len() + bi.len(), plen, ilen, vlen) {
-        return false;
+    let ncols = a.pattern.ncols;
+    let both = a.pattern.i.len() + b.pattern.i.len();
+    if !no_room(ncols, both, plen, ilen, vlen) {
+        return Ok(());
     }
-    let places = count(nrows, ncols, ap, ai, av, bp, bi, bv);
-    no_room(ncols, places, plen, ilen, vlen)
+    if no_room(ncols, count(a, b), plen, ilen, vlen) {
+        return Err(Refusal::NoRoom);
+    }
+    Ok(())
 }
 
 // The sum, into outputs that have room.
-fn fill(
-    nrows: usize,
-    ncols: usize,
-    ap: &[u32],
-    ai: &[u32],
-    av: &[f64],
-    bp: &[u32],
-    bi: &[u32],
-    bv: &[f64],
-    op: &mut [u32],
-    oi: &mut [u32],
-    ov: &mut [f64],
-)
-    requires { Ready (matrix nrows ncols ap.now ai.now av.now) (matrix nrows ncols bp.now bi.now bv.now) (stored op.old oi.old ov.old) }
-    ensures { let a = matrix nrows ncols ap.now ai.now av.now in
-        let b = matrix nrows ncols bp.now bi.now bv.now in
-        stored op.new oi.new ov.new ≡ written (sum_of a b) (stored op.old oi.old ov.old) }
+fn fill(a: Matrix<'_>, b: Matrix<'_>, op: &mut [u32], oi: &mut [u32], ov: &mut [f64])
+    requires { Ready (matrix_of a) (matrix_of b) (stored op.old oi.old ov.old) }
+    ensures { stored op.new oi.new ov.new
+        ≡ written (sum_of (matrix_of a.entry) (matrix_of b.entry)) (stored op.old oi.old ov.old) }
 {
+    let Pattern { nrows, ncols, p, i } = a.pattern;
+    let Pattern { p: bp, i: bi, .. } = b.pattern;
     let mut at = 0;
     for j in 0..ncols {
         op[j] = at as u32;
-        let a = wide(ap[j]);
-        let e = wide(ap[j + 1]);
-        let c = wide(bp[j]);
-        let d = wide(bp[j + 1]);
+        let a_start = wide(p[j]);
+        let a_end = wide(p[j + 1]);
+        let b_start = wide(bp[j]);
+        let b_end = wide(bp[j + 1]);
         at = merge(
             nrows,
             at,
-            &ai[a..e],
-            &av[a..e],
-            &bi[c..d],
-            &bv[c..d],
+            &i[a_start..a_end],
+            &a.v[a_start..a_end],
+            &bi[b_start..b_end],
+            &b.v[b_start..b_end],
             oi,
             ov,
         );
@@ -117,46 +99,21 @@ fn fill(
 
 // The sum of two matrices, in op, oi and ov.
 pub fn sum(
-    nrows: usize,
-    ncols: usize,
-    ap: &[u32],
-    ai: &[u32],
-    av: &[f64],
-    bnrows: usize,
-    bncols: usize,
-    bp: &[u32],
-    bi: &[u32],
-    bv: &[f64],
+    a: Matrix<'_>,
+    b: Matrix<'_>,
     op: &mut [u32],
     oi: &mut [u32],
     ov: &mut [f64],
-) -> u32
-    ensures { let a = matrix nrows ncols ap.now ai.now av.now in
-        let b = matrix bnrows bncols bp.now bi.now bv.now in
+) -> Result<(), Refusal>
+    ensures { let a = matrix_of a.entry in
+        let b = matrix_of b.entry in
         let old = stored op.old oi.old ov.old in
         let new = stored op.new oi.new ov.new in
-        (result ≡ number a b old) × (new ≡ outputs result (written (sum_of a b) old) old) × (result ≡ 0 → Valid (sum_of a b)) }
+        (numbered result ≡ number a b old) × (new ≡ outputs (numbered result) (written (sum_of a b) old) old) ×
+        (numbered result ≡ 0 → Valid (sum_of a b)) }
 {
-    let apart = differ(nrows, ncols, bnrows, bncols);
-    let refused = check_two(nrows, ncols, ap, ai, av, bnrows, bncols, bp, bi, bv, apart);
-    if refused != 0 {
-        return refused;
-    }
-    if lacks_room(
-        nrows,
-        ncols,
-        ap,
-        ai,
-        av,
-        bp,
-        bi,
-        bv,
-        op.len(),
-        oi.len(),
-        ov.len(),
-    ) {
-        return 7;
-    }
-    fill(nrows, ncols, ap, ai, av, bp, bi, bv, op, oi, ov);
-    0
+    check_two(a, b, differ(a.pattern, b.pattern))?;
+    check_room(a, b, op.len(), oi.len(), ov.len())?;
+    fill(a, b, op, oi, ov);
+    Ok(())
 }

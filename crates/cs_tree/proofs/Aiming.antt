@@ -178,9 +178,6 @@ module _ {k : ℕ} {par mark older held : List ℕ} {row m : ℕ} (w : Walks k p
         let s = aiming_some in
         rw l (aim_low {t = t - 1} (omega arith) (omega arith), aim_last {t = t - 1} (omega arith) (omega arith) (omega arith))
 
-pub unlisted : {k : ℕ} {mark : List ℕ} {row j : ℕ} → row ≤ k → j ≡ row → (get_or mark j 0 ≡ k + 1 → ⊥) → Unlisted k mark row
-unlisted {mark = mark} l i n = record { low = l; new = λ z. n (ap (λ (x : ℕ). get_or mark x 0) i ∙ z) }
-
 -- where what is held ends with the way from a row, the way's place m is not reached at t, and the entry in front of t has the parent
 -- `above`
 pub record Aiming (k : ℕ) (par : List ℕ) (row : ℕ) (held mark₀ : List ℕ) (above t : ℕ) : Type 0 where

@@ -12,7 +12,7 @@ use borrow.Author.Tests.{eq-eqb, ne_eqb}
 use Rattle.lists.specs.Order.{lists}
 use Rattle.lists.specs.Parts.{part}
 use Rattle.lists.proofs.Bools.{or-false, le-or-lt}
-use Rattle.lists.proofs.Folds.{Along, along-start, along-turn, along-end}
+use Rattle.lists.proofs.Folds.{Along, along-turn, along-end}
 use Rattle.lists.proofs.Laying.{part-front, part_long}
 use Rattle.lists.proofs.Members.{lists-append, get_d_any}
 use Rattle.lists.proofs.Parts.{left_at, length_part, get_d_part}
@@ -118,11 +118,6 @@ module _ {k : ℕ} {par held mark₀ mark : List ℕ} {above t b j : ℕ} (v : D
           marks = d.marks older m;
         })
 
--- nothing is told
-pub not-read : {k : ℕ} {par : List ℕ} {row : ℕ} {held mark₀ mark : List ℕ} {r : ℕ} → length held < r → (older : List ℕ) → Marks k mark₀ older →
-    r ≤ length held → Read k par row older held r mark
-not-read h older m l = absurd (omega arith)
-
 -- ---- `read_row`: a row that is listed already
 module _ {k : ℕ} {par : List ℕ} {row : ℕ} {held mark : List ℕ} where
   nothing : (older : List ℕ) → Marks k mark older → way k par row older ≡ [] → Read k par row older held (length held) mark
@@ -147,12 +142,6 @@ pub record Backing (k : ℕ) (par rows held mark₀ mark : List ℕ) (top q : �
   pub within : top ≤ length held
   pub is : Along (front k par) rows [] (drop top held) q
   pub marks : Marks k mark (drop top held)
-
-pub backing_start : {k : ℕ} {par : List ℕ} (rows held : List ℕ) {mark : List ℕ} → Walks k par mark → Marks k mark [] →
-    Backing k par rows held mark mark (length held) 0
-backing_start {k = k} {par = par} rows held w m =
-    let n : drop (length held) held ≡ [] = drop-length held in
-    record { asks = w; same = refl; within = omega arith; is = rw n (along-start (front k par) rows []); marks = rw n m }
 
 module _ {k : ℕ} {par rows held mark₀ mark : List ℕ} {top q : ℕ} (v : Backing k par rows held mark₀ mark top q) where
   pub backing_turn : {r : ℕ} {mark1 : List ℕ} → q < length rows → length mark1 ≡ length mark

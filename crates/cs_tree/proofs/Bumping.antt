@@ -3,7 +3,7 @@
 use mathlib.Core.Path.{◌≡◌, refl, sym, ap, ◌∙◌}
 use mathlib.Core.Bool.{true, false}
 use mathlib.Core.List.{List, [], ◌∷◌, ◌++◌, flatten}
-use Prim.Native.Nat.{ℕ, zero, suc, ◌+◌, ◌*◌, ◌≤◌, ◌<◌, ◌%◌, ◌^◌, min}
+use Prim.Native.Nat.{ℕ, zero, suc, ◌+◌, ◌*◌, ◌≤◌, ◌<◌, ◌%◌, ◌^◌}
 use native.Mathlib.Numerals.{add-one}
 use native.Mathlib.Omega.{arith}
 use lib.ListN.{length, get_or, set, take, length-set}
@@ -52,7 +52,8 @@ bumping_start {k = k} {counts = counts} v h e =
 
 module _ {k : ℕ} {par : List ℕ} {row : ℕ} {mark₀ mark counts₀ counts : List ℕ} {i len : ℕ} (v : Bumping k par row mark₀ mark counts₀ counts i len)
   where
-    ended : (older : List ℕ) (m : Marks k mark₀ older) → path (v.tells older m).fuel par k i older ≡ [] → counts ≡ counted (way k par row older) counts₀
+    ended : (older : List ℕ) (m : Marks k mark₀ older) → path (v.tells older m).fuel par k i older ≡ []
+        → counts ≡ counted (way k par row older) counts₀
     ended older m e = sym ((v.tells older m).goes ∙ ap (λ (l : List ℕ). counted l counts) e ∙ counted_none counts)
 
     module _ (h : i ≤ k) where
@@ -227,12 +228,11 @@ module _ {cols : List (List ℕ)} {par counts₀ mark counts : List ℕ} {total 
             are = counts_are;
           }
 
-      pub totting_stop : 4194304 < total + c → 4194305 ≡ min (entries (upper cols)) 4194305
+      pub totting_stop : 4194304 < total + c → 4194304 < entries (upper cols)
       totting_stop f = omega (arith, more, entries-part (upper cols) (k + 1))
 
-    pub totting_done : length cols ≤ k → (total ≡ min (entries (upper cols)) 4194305) × Kept 0 (length cols) counts₀ counts ×
-        (total ≤ 4194304 → counts ≡ counted (flatten (upper cols)) counts₀)
+    pub totting_done : length cols ≤ k → (total ≡ entries (upper cols)) × Kept 0 (length cols) counts₀ counts ×
+        (counts ≡ counted (flatten (upper cols)) counts₀)
     totting_done h =
         let t : take k (upper cols) ≡ upper cols = take_all k (upper cols) (omega (arith, v.within, upper_long g)) in
-        let s : total ≡ entries (upper cols) = v.sum ∙ ap entries t in
-        (omega (arith, v.few), v.kept, λ m. v.are ∙ ap (λ (d : List (List ℕ)). counted (flatten d) counts₀) t)
+        (v.sum ∙ ap entries t, v.kept, v.are ∙ ap (λ (d : List (List ℕ)). counted (flatten d) counts₀) t)

@@ -8,7 +8,7 @@ use lib.ListN.{length, get_or, set, length-set}
 use lib.Seq.{get_or-set_same, get_or-set_other}
 use Rattle.lists.proofs.Bools.{eq-or-ne}
 use Rattle.lists.proofs.Members.{get_d_any}
-use Rattle.lists.proofs.Folds.{Along, along-start, along-turn, along-end}
+use Rattle.lists.proofs.Folds.{Along, along-turn, along-end}
 use Rattle.cs_tree.specs.Tree.{root, forest, climb, climbs}
 use Rattle.cs_tree.specs.Steps.{Above, Climbs}
 use Rattle.cs_tree.proofs.Steps.{climb_stop, climb-root, climb_on}
@@ -33,9 +33,6 @@ pub record Climbing (k : ℕ) (t₀ a₀ t a : List ℕ) (i₀ i : ℕ) : Type 0
   pub fuel : ℕ
   pub enough : k - i ≤ fuel
   pub goes : climb fuel k i (forest t a) ≡ climb k k i₀ (forest t₀ a₀)
-
-pub climbing_start : {k : ℕ} {t a : List ℕ} (i : ℕ) → Climbs k t a → Climbing k t a t a i i
-climbing_start {k = k} i v = record { asks = v; t_same = refl; a_same = refl; fuel = k; enough = omega arith; goes = refl }
 
 more_fuel : (f n : ℕ) → n ≤ f → 0 < n → (g : ℕ) × (f ≡ suc g)
 more_fuel zero n h p = absurd (omega arith)
@@ -99,9 +96,6 @@ pub record Rows (k : ℕ) (rows t₀ a₀ t a : List ℕ) (q : ℕ) : Type 0 whe
   pub t_same : length t ≡ length t₀
   pub a_same : length a ≡ length a₀
   pub is : Along (climb k k) rows (forest t₀ a₀) (forest t a) q
-
-pub rows_start : {k : ℕ} (rows : List ℕ) {t a : List ℕ} → Climbs k t a → Rows k rows t a t a 0
-rows_start {k = k} rows {t = t} {a = a} v = record { asks = v; t_same = refl; a_same = refl; is = along-start (climb k k) rows (forest t a) }
 
 pub rows-turn : {k : ℕ} {rows t₀ a₀ t a t1 a1 : List ℕ} {q i : ℕ} → Rows k rows t₀ a₀ t a q → q < length rows → i ≡ get_or rows q 0 →
     Climbed k t a t1 a1 i → Rows k rows t₀ a₀ t1 a1 (q + 1)

@@ -15,7 +15,7 @@ use Rattle.lists.specs.Parts.{part}
 use Rattle.lists.proofs.Bools.{eq-or-ne}
 use Rattle.lists.proofs.Keys.{keys-whole}
 use Rattle.lists.proofs.Parts.{front, left_at, left-none}
-use Rattle.lists.proofs.Receding.{Ends, Receding, receding_start, receding_in_w, receding_some, receding_in_out, receding_turn, receding_done}
+use Rattle.lists.proofs.Receding.{Ends, Receding, receding_start, receding_some, receding_in_out, receding_turn, receding_done}
 use Rattle.cs_tree.specs.Pattern.{paths, upper, lower, transposed, starts, entries}
 use Rattle.lists.specs.Keeping.{Zeros}
 use Rattle.cs_tree.specs.Steps.{Marks, Walks, Given, numbers}
@@ -33,9 +33,6 @@ use Rattle.cs_tree.proofs.Walking.{marks_fresh, marks-next}
 abbrev pub Putting : (k : ℕ) (rows next₀ li₀ next li : List ℕ) (q : ℕ) → Type 0
 Putting k rows next₀ li₀ next li q = (s : Last k rows next₀ li₀) → Left k rows next₀ li₀ s next li q
 
-pub putting_start : {k : ℕ} {rows next li : List ℕ} → Putting k rows next li next li (length rows)
-putting_start s = s.is
-
 module _ {k : ℕ} {rows next₀ li₀ next li : List ℕ} {q : ℕ} (v : Putting k rows next₀ li₀ next li q) (h : 0 < q) (b : q ≤ length rows) {j : ℕ}
     (e : j ≡ get_or rows (q - 1) 0) where
   module _ (s : Last k rows next₀ li₀) where
@@ -48,9 +45,6 @@ module _ {k : ℕ} {rows next₀ li₀ next li : List ℕ} {q : ℕ} (v : Puttin
     row : get_or s.keys at 0 ≡ j
     row = s.keyed (q - 1) (omega arith) ∙ sym e
 
-    pub putting_row : j < length next
-    putting_row = rw (← row) (receding_in_w (v s) at less)
-
     pub putting_some : 0 < get_or next j 0
     putting_some = rw (← row) (receding_some (v s) at less)
 
@@ -59,9 +53,6 @@ module _ {k : ℕ} {rows next₀ li₀ next li : List ℕ} {q : ℕ} (v : Puttin
 
   pub putting_turn : {t : ℕ} → t ≡ get_or next j 0 - 1 → Putting k rows next₀ li₀ (set next j (get_or next j 0 - 1)) (set li t k) (q - 1)
   putting_turn e s = rw (e, ← s.numbered (q - 1) (omega arith), ← row s) (receding_turn (v s) (at s) (less s))
-
-pub putting_done : {k : ℕ} {rows next₀ li₀ next li : List ℕ} {q : ℕ} → Putting k rows next₀ li₀ next li q → q ≡ 0 → Putting k rows next₀ li₀ next li 0
-putting_done v e s = rw e at (v s)
 
 -- ---- column by column: from k on they are laid, and start at top
 pub record Falling (cols : List (List ℕ)) (up₀ ui₀ next₀ li₀ mark up ui next li : List ℕ) (top k : ℕ) : Type 0 where

@@ -1,11 +1,10 @@
 -- The loops that look for U's entries by their rows in what is lent as L: one column, column by column, and what is known at the
 -- end. Assumes nothing.
-use mathlib.Core.Path.{◌≡◌, refl, sym, ap, ◌∙◌}
+use mathlib.Core.Path.{◌≡◌, sym, ap, ◌∙◌}
 use mathlib.Core.List.{List, flatten}
 use Prim.Native.Nat.{ℕ, suc, ◌+◌, ◌-◌, ◌≤◌, ◌<◌}
 use native.Mathlib.Omega.{arith}
 use lib.ListN.{length, get_or, set, take, length-set}
-use lib.Seq.{take_all}
 use Rattle.lists.specs.Parts.{part}
 use Rattle.lists.proofs.Standing.{Standing, standing_turn, standing_starts, standing_done}
 use Rattle.cs_tree.specs.Pattern.{starts, entries, transposed}
@@ -24,22 +23,8 @@ pub record Looking (k : ℕ) (rows li next₀ next : List ℕ) (q : ℕ) : Type 
   pub within : q ≤ length rows
   pub tells : Stood k rows li next₀ next q
 
-pub looking_start : {k : ℕ} {rows li next : List ℕ} → length li ≤ 4194304 → ((m : ℕ) → m < length rows → get_or rows m 0 < length next) →
-    Looking k rows li next next 0
-looking_start f l =
-    record {
-      few = f;
-      same = refl;
-      low = l;
-      within = omega arith;
-      tells = λ n keys xs held at a v. let z : at + 0 ≡ at = omega arith in rw z v;
-    }
-
 module _ {k : ℕ} {rows li next₀ next : List ℕ} {q : ℕ} (v : Looking k rows li next₀ next q) where
   module _ (h : q < length rows) {j : ℕ} (e : j ≡ get_or rows q 0) where
-    pub looking_in : j < length next
-    looking_in = omega (arith, e, v.low q h, v.same)
-
     pub looking_turn : {t : ℕ} → t ≡ get_or next j 0 → get_or li t 0 ≡ k → Looking k rows li next₀ (set next j (get_or next j 0 + 1)) (q + 1)
     looking_turn {t = t} f g =
         record {
@@ -52,9 +37,6 @@ module _ {k : ℕ} {rows li next₀ next : List ℕ} {q : ℕ} (v : Looking k ro
               rw z (standing_turn (v.tells n keys xs held at a s) a.alike (omega (arith, a.end)) (omega (arith, a.wide, v.same)) (a.keyed q h ∙
               sym e) (ap (λ (y : ℕ). get_or li y 0) (sym f) ∙ g ∙ sym (a.numbered q h)));
         }
-
-  pub looking_done : length rows ≤ q → Stood k rows li next₀ next (length rows)
-  looking_done h = let e : q ≡ length rows = omega (arith, v.within) in rw (← e) v.tells
 
 -- ---- `look_columns`
 -- the columns below k are seen
@@ -110,11 +92,6 @@ seen_turn {n = n} {k = k} v h l x y d =
       tells = λ w held s. rw (← end w h x y) (d n (flatten w.us) (numbers 0 w.us) held (entries (take k w.us)) (among w h x y l)
           (v.tells w held s));
     }
-
-pub seen_done : {n : ℕ} {up ui li next₀ next : List ℕ} {k : ℕ} → Seen n up ui li next₀ next k → n ≤ k →
-    (w : Whole n (length li) up ui) (held : List ℕ) → Standing 0 n (flatten w.us) (numbers 0 w.us) held li next₀ 0
-    → Standing 0 n (flatten w.us) (numbers 0 w.us) held li next (entries w.us)
-seen_done {k = k} v h w held s = let e : take k w.us ≡ w.us = take_all k w.us (omega (arith, w.count)) in let d = v.tells w held s in rw e at d
 
 -- ---- the whole of L
 module _ {n t : ℕ} {up ui : List ℕ} (w : Whole n t up ui) {lp li next : List ℕ} (v : Standing 0 n (flatten w.us) (numbers 0 w.us) lp li next

@@ -9,22 +9,17 @@ use lib.Dec.{eqb}
 use lib.ListN.{length, get_or, take, length-append, get_or-append}
 use lib.Seq.{take_all, length-take-le, get_or-take, get_or_at, ext_get_or}
 use Rattle.lists.specs.Calls.{onto, cleared}
-use Rattle.lists.specs.Keys.{of_key, by_key}
+use Rattle.lists.specs.Keys.{of_key}
 use Rattle.lists.specs.Parts.{part, placed}
 use Rattle.lists.specs.Sums.{counted, sums}
-use Rattle.lists.specs.Keeping.{Kept}
 use Rattle.lists.proofs.Bools.{eq-or-ne}
-use Rattle.lists.proofs.Clearing.{length-cleared, cleared-front, cleared-rest}
-use Rattle.lists.proofs.Keys.{keys-whole}
+use Rattle.lists.proofs.Clearing.{length-cleared, cleared-front}
 use Rattle.lists.proofs.Laying.{placed-front, part-front, onto-whole}
-use Rattle.lists.proofs.Parts.{length-onto, get_or-onto-front, get_or-onto-rest}
-use Rattle.lists.proofs.Scattering.{Scatter}
 use Rattle.lists.proofs.Summing.{length-counted, counts_fit, counts_rest}
 use Rattle.cs_tree.specs.Pattern.{starts, entries, transposed}
-use Rattle.cs_tree.specs.Steps.{lengths, numbers, Spreads, Whole}
+use Rattle.cs_tree.specs.Steps.{lengths, numbers, Whole}
 use Rattle.cs_tree.proofs.Count.{length-starts, entries-across}
-use Rattle.cs_tree.proofs.Laid.{sums-starts, length-laid, length-numbers, length-lengths, transposed-length, transposed-start, length-transposed}
-use Rattle.cs_tree.proofs.Laid.{laid-transposed}
+use Rattle.cs_tree.proofs.Laid.{sums-starts, length-laid, length-numbers, length-lengths, transposed-length, length-transposed}
 
 -- ---- `cumsum` on the fronts of two slices
 -- what is summed
@@ -162,50 +157,3 @@ module _ {n t : ℕ} {up ui : List ℕ} (w : Whole n t up ui) where
         (λ (y : j ≡ n). rw y (count-last ∙ sym (get_or_at (lengths ls) 0 [] 0 n lengths_long)))
         (λ (y : j ≡ n → ⊥). count_at j (omega arith) ∙ sym (get_or-append (lengths ls) (0 ∷ []) 0 j (omega (arith, lengths_long))))
         (eq-or-ne j n))
-
-    abbrev next2 : List ℕ
-    next2 = onto next1 (starts 0 ls)
-
-    starts-in : length (starts 0 ls) ≡ m
-    starts-in = omega (arith, length-starts 0 ls, lower_long)
-
-    next2_long : length next2 ≡ length next₀
-    next2_long = length-onto next1 (starts 0 ls) (omega (arith, starts-in, next1_long)) ∙ next1_long
-
-    ready : (li : List ℕ) → t ≤ length li → Scatter n ks xs next2 li
-    ready li r =
-        record {
-          alike = items_long;
-          named = named;
-          w_long = omega (arith, next2_long);
-          starts = λ j l. get_or-onto-front next1 (starts 0 ls) 0 j (omega (arith, starts-in)) ∙
-              transposed-start us w.once j (omega (arith, w.count));
-          room = omega (arith, keys-whole n ks xs items_long named, keys_long);
-        }
-
-    pub spreads : (li : List ℕ) → t ≤ length li → Spreads n up ui next2 li
-    spreads li r =
-        record {
-          us = us;
-          count = w.count;
-          pointed = w.pointed;
-          few = omega (arith, w.size, w.few);
-          room = omega (arith, w.size, w.room);
-          laid = w.laid;
-          ready = ready li r;
-        }
-
-    -- what is put is L
-    pub put_is : (li : List ℕ) (o : t ≤ length li) → by_key n (flatten (spreads li o).us) (numbers 0 (spreads li o).us) ≡ flatten ls
-    unfolding spreads
-    put_is li o = ap (λ (k : ℕ). by_key k ks xs) (sym w.count) ∙ sym (laid-transposed us w.once)
-
-    pub next-kept : {next3 : List ℕ} → Kept 0 n next2 next3 → Kept 0 m next₀ next3
-    next-kept v =
-        record {
-          long = v.long ∙ next2_long;
-          rest = λ q l.
-              v.rest q (omega arith) ∙ get_or-onto-rest next1 (starts 0 ls) 0 q (omega (arith, starts-in)) ∙
-              ap (λ (r : List ℕ). get_or r q 0) next1_is
-              ∙ counts_rest ks zeros n q named (omega arith) ∙ cleared-rest 0 m next₀ q l;
-        }

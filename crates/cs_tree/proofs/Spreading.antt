@@ -5,7 +5,7 @@ use mathlib.Core.List.{List, [], flatten}
 use Prim.Native.Nat.{ℕ, ◌+◌, ◌-◌, ◌≤◌, ◌<◌}
 use native.Mathlib.Omega.{arith}
 use lib.ListN.{length, get_or, set, take}
-use lib.Seq.{set-get_or, take_all}
+use lib.Seq.{set-get_or}
 use Rattle.lists.specs.Keys.{by_key}
 use Rattle.lists.specs.Parts.{part}
 use Rattle.lists.proofs.Keys.{keys-whole}
@@ -20,9 +20,6 @@ use Rattle.cs_tree.proofs.Laid.{length-laid}
 -- for whatever the rows stand among
 abbrev pub Going : (k : ℕ) (rows next₀ li₀ next li : List ℕ) (q : ℕ) → Type 0
 Going k rows next₀ li₀ next li q = (s : Spread k rows next₀ li₀) → Put k rows next₀ li₀ s next li q
-
-pub going_start : {k : ℕ} {rows next li : List ℕ} → Going k rows next li next li 0
-going_start s = let e : s.at + 0 ≡ s.at = omega arith in rw e s.is
 
 module _ {k : ℕ} {rows next₀ li₀ next li : List ℕ} {q : ℕ} (v : Going k rows next₀ li₀ next li q) (h : q < length rows) {j : ℕ}
     (e : j ≡ get_or rows q 0) where
@@ -48,18 +45,11 @@ module _ {k : ℕ} {rows next₀ li₀ next li : List ℕ} {q : ℕ} (v : Going 
   pub going_holds : (s : Spread k rows next₀ li₀) → get_or (by_key s.n s.keys s.xs) (get_or next j 0) 0 ≡ k
   going_holds s = (rw (row s) at (next_holds (v s) (inside s))) ∙ s.numbered q h
 
-  pub going_turn : {t : ℕ} → t ≡ get_or next j 0 → Going k rows next₀ li₀ (set next j (get_or next j 0 + 1)) (set li t k) (q + 1)
-  going_turn e s = rw e (turned s)
-
   -- where what stands there is what would be put
   pub going_same : {t : ℕ} → t ≡ get_or next j 0 → get_or li t 0 ≡ k → Going k rows next₀ li₀ (set next j (get_or next j 0 + 1)) li (q + 1)
   going_same {t = t} e f s =
       let z : set li (get_or next j 0) k ≡ li = rw (← e, ← f) (set-get_or li t 0) in
       rw z at (turned s)
-
-pub going_done : {k : ℕ} {rows next₀ li₀ next li : List ℕ} {q : ℕ} → Going k rows next₀ li₀ next li q → q ≤ length rows → length rows ≤ q →
-    Going k rows next₀ li₀ next li (length rows)
-going_done {rows = rows} {q = q} v a b s = let e : q ≡ length rows = omega arith in rw e at (v s)
 
 -- ---- column by column: `lower_columns`
 abbrev pub Columns : (n : ℕ) (up ui next₀ li₀ next li : List ℕ) (k : ℕ) → Type 0
@@ -116,10 +106,6 @@ columns-turn {ui = ui} {k = k} {b = b} {f = f} v h x y w s =
     let z : entries (take k s.us) + length (part b f ui) ≡ entries (take (k + 1) s.us) =
     omega (arith, rows_long s h x y, size s h x y, end_is s h x y, start_is s h x y) in
     rw z at (w c)
-
-module _ {n : ℕ} {up ui next₀ li₀ next li : List ℕ} {k : ℕ} (v : Columns n up ui next₀ li₀ next li k) (a : k ≤ n) (h : n ≤ k) where
-  whole : (s : Spreads n up ui next₀ li₀) → length (flatten s.us) ≤ entries (take k s.us)
-  whole s = let e : take k s.us ≡ s.us = take_all k s.us (omega (arith, s.count)) in rw e (omega (arith, length-laid s.us))
 
 -- a column's entries stand among all of U's
 pub column_among : {n : ℕ} {up ui next₀ li₀ next li : List ℕ} {k b f : ℕ} (s : Spreads n up ui next₀ li₀) (h : k < n) (x : b ≡ get_or up k 0)

@@ -4,7 +4,7 @@ use mathlib.Core.Bool.{Bool, true, false, ◌||◌}
 use mathlib.Core.List.Memᴰ
 use mathlib.Core.List.{List, [], ◌∷◌, ◌++◌, append-nil, Memᴰ}
 use mathlib.Core.Logic.{inl, inr, ⊎_elim, ◌≢◌}
-use Prim.Native.Nat.{ℕ, zero, suc, ◌+◌, ◌*◌, ◌≤◌, ◌<◌}
+use Prim.Native.Nat.{ℕ, zero, suc, ◌+◌, ◌≤◌, ◌<◌}
 use native.Mathlib.Omega.{arith}
 use lib.Dec.{eqb}
 use lib.ListN.{length, get_or, set, drop, length-set, length-append}
@@ -224,29 +224,6 @@ module _ {s k : ℕ} {par rows mark : List ℕ} {count q : ℕ} (v : Listing s k
   unfolding paths
   listing_all h = along-end (front k par) rows v.is h
 
--- the loop of `column_length`
-pub record Tallying (s k : ℕ) (par rows mark₀ mark : List ℕ) (count q : ℕ) : Type 0 where
-  pub asks : Walks k par mark
-  pub same : length mark ≡ length mark₀
-  pub fits : count ≤ q * 65536
-  pub is : Listing s k par rows mark count q
-
-pub tallying_start : {s k : ℕ} {par : List ℕ} (rows : List ℕ) {mark : List ℕ} → Walks k par mark → Marks s mark [] →
-    Tallying s k par rows mark mark 0 0
-tallying_start rows v m = record { asks = v; same = refl; fits = omega arith; is = listing_start rows m }
-
 -- a slice of marks comes back as long as it was
 pub walks_on : {k : ℕ} {par mark mark1 : List ℕ} → Walks k par mark → length mark1 ≡ length mark → Walks k par mark1
 walks_on v e = record { small = v.small; p_long = v.p_long; m_long = omega (arith, v.m_long, e); above = v.above }
-
-pub tallying_turn : {s k : ℕ} {par rows mark₀ mark mark1 : List ℕ} {count q len : ℕ} → Tallying s k par rows mark₀ mark count q → q < length rows →
-    length mark1 ≡ length mark
-    → (len ≤ k + 1) × ((older : List ℕ) → Marks s mark older → Walked s k par (get_or rows q 0) older len mark1) →
-    Tallying s k par rows mark₀ mark1 (count + len) (q + 1)
-tallying_turn v h e w =
-    record {
-      asks = walks_on v.asks e;
-      same = e ∙ v.same;
-      fits = omega (arith, v.fits, v.asks.small, w.0);
-      is = listing_turn v.is h refl (w.1 v.is.older v.is.marks) refl;
-    }

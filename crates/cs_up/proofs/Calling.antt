@@ -1,14 +1,13 @@
--- What `close`, `blank` and `fill` leave, and what `decompose_up_looking` answers and leaves at each of its ways out. Assumes nothing.
-use mathlib.Core.Bool.{Bool, cond}
+-- What `work` leaves, and what `decompose_up_looking` answers and leaves at each of its ways out. Assumes nothing.
+use mathlib.Core.Bool.{Bool}
 use mathlib.Core.List.{List, [], ◌∷◌, flatten}
-use mathlib.Core.Logic.{◌⊎◌, ⊎_elim}
+use mathlib.Core.Logic.{◌⊎◌}
 use mathlib.Core.Path.{◌≡◌, refl, sym, ap, ◌∙◌}
-use Prim.Native.Nat.{ℕ, ◌+◌, ◌≤◌, ◌<◌}
+use Prim.Native.Nat.{ℕ, ◌+◌, ◌≤◌}
 use native.Mathlib.Omega.{arith}
 use lib.Dec.{eqb}
 use lib.Ieee.{Float}
-use lib.ListN.{length, get_or, set}
-use borrow.Author.Tests.{eq-eqb, ne_eqb}
+use lib.ListN.{length, get_or}
 use Rattle.lists.specs.Calls.{lowest, cleared, onto, none, Scratch, scratch, wiped, worked, lent, leaves}
 use Rattle.lists.specs.Parts.{part, placed}
 use Rattle.lists.proofs.Calls.{wiped_each}
@@ -23,36 +22,23 @@ use Rattle.cs_cholesky.specs.declared.Factored.{Factored}
 use Rattle.cs_cholesky.proofs.Factoring.{factor-ends}
 use Rattle.cs_cholesky.proofs.Serving.{Passed, passed}
 use Rattle.cs_cholesky.proofs.Ways.{at_judge, at-end}
-use Rattle.cs_up.specs.Steps.{Ready, Fills}
+use Rattle.cs_up.specs.Steps.{Fills}
 use Rattle.cs_up.specs.Up.{up_step, up as upOf, number}
 use Rattle.cs_up.proofs.Lying.{lies}
-
--- ---- `close` and `blank`
-pub stored_at : (l : List Float) {s s1 : ℕ} {d d1 : Float} → s ≡ s1 → d ≡ d1 → set l s d ≡ set l s1 d1
-stored_at l e f = rw (e, f)
-
-pub blank_11 : {r : ℕ} {l m : List Float} (n : List Float) → r ≡ 11 → l ≡ m → l ≡ cond (eqb r 11) m n
-blank_11 {r} n e f = rw (eq-eqb r 11 e) f
-
-pub blank_other : {r : ℕ} (l m : List Float) → (r ≡ 11 → ⊥) → l ≡ cond (eqb r 11) m l
-blank_other {r} l m e = rw (ne_eqb r 11 e)
 
 -- it ends with 0, or stops with 11
 pub up_ends : (a : Matrix) → ((upOf a).answer ≡ factored 0 0 none) ⊎ ((upOf a).answer.number ≡ 11)
 unfolding upOf
 up_ends a = factor-ends (up_step a (upper (columns a.pattern)) (lower (columns a.pattern))) a.pattern.ncols 0 []
 
--- ---- `fill`
-module _ {n : ℕ} {p i : List ℕ} {v : List Float} {up ui lp li : List ℕ} {lx : List Float} {next : List ℕ} {x : List Float}
-    (R : Fills n p i v up ui lp li lx next x) where
+-- ---- `work`
+module _ {n : ℕ} {p i : List ℕ} {v : List Float} {tr up ui lp li : List ℕ} {lx : List Float} {next : List ℕ} {x : List Float}
+    (R : Fills (matrix n n p i v) (analysis tr up ui lp li) lx next x) where
   abbrev size : ℕ
   size = entries (upper (columns (pattern n n p i)))
 
   abbrev f : Outcome
   f = upOf (matrix n n p i v)
-
-  pub fill_in_lp : n < length lp
-  fill_in_lp = (lies R.served).lp_long
 
   module _ {t : ℕ} (g : t ≡ get_or lp n 0) where
     t_is : t ≡ size
@@ -61,49 +47,35 @@ module _ {n : ℕ} {p i : List ℕ} {v : List Float} {up ui lp li : List ℕ} {l
     pub fill_in_lx : t ≤ length lx
     fill_in_lx = omega (arith, t_is, R.served.roomy)
 
-    pub fill_asks : Ready n p i v up ui lp li (part 0 t lx) (part 0 n next) (part 0 n x)
-    fill_asks = record {
-      room = length lx;
-      served = R.served;
-      lx_long = part_long t lx fill_in_lx ∙ t_is;
-      next_long = part_long n next R.in_next;
-      x_long = part_long n x R.in_x;
-      zeros = R.zeros;
-    }
-
-    module _ {s : Factored} {lx1 : List Float} (F : (s ≡ f.answer) × (s.number ≡ 0 → lx1 ≡ flatten f.columns))
-        (l : length lx1 ≡ length (part 0 t lx)) where
+    module _ (lx1 : List Float) (l : length lx1 ≡ length (part 0 t lx)) (next1 : List ℕ) (x1 : List Float)
+        (k : length next1 ≡ length (part 0 n next)) (m : length x1 ≡ length (part 0 n x)) where
       long : length lx1 ≡ t
       long = l ∙ part_long t lx fill_in_lx
 
-      at_11 : f.answer.number ≡ 11 → cleared none t (placed 0 t lx lx1) ≡ written size f lx
-      unfolding written
-      at_11 z = cleared-written none t lx lx1 fill_in_lx long ∙ (rw (z, ← t_is) refl)
-
-      at_0 : f.answer ≡ factored 0 0 none → placed 0 t lx lx1 ≡ written size f lx
-      unfolding written
-      at_0 z =
-          let k : f.answer.number ≡ 0 = ap (λ (r : Factored). r.number) z in
-          placed-front lx lx1 t long ∙ ap (onto lx) (F.1 (ap (λ (r : Factored). r.number) F.0 ∙ k)) ∙ (rw k refl)
-
-      out_is : {lx2 : List Float} → lx2 ≡ cond (eqb s.number 11) (cleared none t (placed 0 t lx lx1)) (placed 0 t lx lx1) → lx2 ≡ written size f lx
-      out_is {lx2} b =
-          let k : s.number ≡ f.answer.number = ap (λ (r : Factored). r.number) F.0 in
-          ⊎_elim
-          (λ (z : f.answer ≡ factored 0 0 none). let q : s.number ≡ 0 = k ∙ ap (λ (r : Factored). r.number) z in b ∙ (rw q (at_0 z)))
-          (λ (z : f.answer.number ≡ 11). let q : s.number ≡ 11 = k ∙ z in b ∙ (rw q (at_11 z)))
-          (up_ends (matrix n n p i v))
-
-      pub filled : (next1 : List ℕ) (x1 : List Float) {lx2 : List Float} → length next1 ≡ length (part 0 n next) → length x1 ≡ length (part 0 n x)
-          → lx2 ≡ cond (eqb s.number 11) (cleared none t (placed 0 t lx lx1)) (placed 0 t lx lx1)
-          → (s ≡ f.answer) × (lx2 ≡ written size f lx) × (cleared 0 (n + 1) (placed 0 n next next1) ≡ cleared 0 (n + 1) next) ×
+      -- what a way out owes
+      abbrev Filled : Factored → List Float → Type 0
+      Filled s lx2 = (s ≡ f.answer) × (lx2 ≡ written size f lx) × (cleared 0 (n + 1) (placed 0 n next next1) ≡ cleared 0 (n + 1) next) ×
           (cleared none (n + 1) (placed 0 n x x1) ≡ cleared none (n + 1) x)
-      filled next1 x1 k m b = (
-        F.0,
-        out_is b,
+
+      filled : {s : Factored} {lx2 : List Float} → s ≡ f.answer → lx2 ≡ written size f lx → Filled s lx2
+      filled e b = (
+        e,
+        b,
         cleared-after 0 n (n + 1) next next1 (omega arith) R.in_next (k ∙ part_long n next R.in_next),
         cleared-after none n (n + 1) x x1 (omega arith) R.in_x (m ∙ part_long n x R.in_x),
       )
+
+      pub filled_11 : {s : Factored} {lx2 : List Float} → (s ≡ f.answer) × (s.number ≡ 11) → lx2 ≡ cleared none t (placed 0 t lx lx1) → Filled s lx2
+      unfolding written
+      filled_11 F b =
+          let z : f.answer.number ≡ 11 = ap (λ (r : Factored). r.number) (sym F.0) ∙ F.1 in
+          filled F.0 (b ∙ cleared-written none t lx lx1 fill_in_lx long ∙ (rw (z, ← t_is) refl))
+
+      pub filled_0 : (f.answer ≡ factored 0 0 none) × (lx1 ≡ flatten f.columns) → Filled (factored 0 0 none) (placed 0 t lx lx1)
+      unfolding written
+      filled_0 F =
+          let z : f.answer.number ≡ 0 = ap (λ (r : Factored). r.number) F.0 in
+          filled (sym F.0) (placed-front lx lx1 t long ∙ ap (onto lx) F.1 ∙ (rw z refl))
 
 -- ---- the call
 module _ (nrows n : ℕ) (p i : List ℕ) (v : List Float) (tr up ui lp li : List ℕ) (lx : List Float) (w1 w2 w3 : List ℕ) (x : List Float) where
@@ -152,7 +124,7 @@ module _ (nrows n : ℕ) (p i : List ℕ) (v : List Float) (tr up ui lp li : Lis
       pub small : n ≤ 65535
       small = P.served.valid.pattern.cols
 
-      pub call_fills : Fills n p i v up ui lp li lx work1.w1 work1.x
+      pub call_fills : Fills (matrix n n p i v) given lx work1.w1 work1.x
       call_fills = record {
         served = P.served;
         in_next = rw (each.0, length-cleared 0 (n + 1) w1) (omega (arith, P.wide.in_w1));

@@ -1,5 +1,5 @@
 -- `factor`: the columns in turn, until a pivot stops them or L is whole. Assumes nothing.
-use mathlib.Core.Bool.{true, false, not}
+use mathlib.Core.Bool.{true, false}
 use mathlib.Core.List.{List, [], flatten}
 use mathlib.Core.Logic.{⊎_elim}
 use mathlib.Core.Path.{◌≡◌, refl, sym, ap, ◌∙◌}
@@ -9,19 +9,17 @@ use native.Mathlib.Omega.{arith}
 use lib.Ieee.{Float, lt}
 use lib.ListN.{length, get_or, set, replicate, length-set}
 use lib.Seq.{take-length}
-use borrow.Author.Tests.{not-true, not-false}
 use Rattle.lists.specs.Calls.{none}
 use Rattle.lists.specs.Parts.{part}
 use Rattle.lists.specs.Tables.{from}
 use Rattle.lists.proofs.Pushing.{parts_laid}
 use Rattle.root.specs.Root.{root_of}
-use Rattle.cs_matrix.specs.Matrix.{pattern, matrix}
-use Rattle.cs_tree.specs.Pattern.{upper, lower, entries}
+use Rattle.cs_matrix.specs.Matrix.{pattern, Matrix, matrix}
+use Rattle.cs_tree.specs.Pattern.{Analysis, analysis, upper, lower, entries}
 use Rattle.cs_pattern.specs.Columns.{columns}
 use Rattle.cs_cholesky.specs.Factor.{Step, Outcome, factored, factor}
-use Rattle.cs_cholesky.specs.declared.Factored.{Factored}
 use Rattle.cs_cholesky.proofs.Factoring.{Reached, reached-start, reached-turn, reached_stop, reached-end}
-use Rattle.cs_up.specs.Steps.{held, Stands, Closes, Ready, Turns, Gone}
+use Rattle.cs_up.specs.Steps.{held, Stands, Closes, Ready, Gone}
 use Rattle.cs_up.specs.Up.{up_step, up as upOf}
 use Rattle.cs_up.proofs.Lying.{lies, upward}
 use Rattle.cs_up.proofs.Rowing.{climbs}
@@ -43,19 +41,19 @@ held-is : (n : ℕ) (lp next : List ℕ) (lx : List Float) → held n lp next lx
 unfolding held
 held-is n lp next lx = refl
 
-pub record Factoring (n : ℕ) (p i : List ℕ) (v : List Float) (up ui lp li : List ℕ) (lx₀ : List Float) (next₀ : List ℕ) (x₀ lx : List Float)
-    (next : List ℕ) (x : List Float) (k : ℕ) : Type 0 where
+pub record Factoring (a : Matrix) (given : Analysis) (lx₀ : List Float) (next₀ : List ℕ) (x₀ lx : List Float) (next : List ℕ) (x : List Float)
+    (k : ℕ) : Type 0 where
   pub lx_long : length lx ≡ length lx₀
   pub next_long : length next ≡ length next₀
   pub x_long : length x ≡ length x₀
-  pub ready : Ready n p i v up ui lp li lx next x
-  pub stands : Stands k k lp li next
-  pub reached : Reached (step_of n p i v) n k (held k lp next lx)
+  pub ready : Ready a given lx next x
+  pub stands : Stands k k given.lp given.li next
+  pub reached : Reached (up_step a (upper (columns a.pattern)) (lower (columns a.pattern))) a.pattern.ncols k (held k given.lp next lx)
 
-pub factoring-start : {n : ℕ} {p i : List ℕ} {v : List Float} {up ui lp li : List ℕ} {lx : List Float} {next : List ℕ} {x : List Float} →
-    Ready n p i v up ui lp li lx next x
-    → Factoring n p i v up ui lp li lx next x lx next x 0
-factoring-start {n} {p} {i} {v} {up} {ui} {lp} {li} {lx} {next} {x} r = record {
+pub factoring-start : {n : ℕ} {p i : List ℕ} {v : List Float} {tr up ui lp li : List ℕ} {lx : List Float} {next : List ℕ} {x : List Float} →
+    Ready (matrix n n p i v) (analysis tr up ui lp li) lx next x
+    → Factoring (matrix n n p i v) (analysis tr up ui lp li) lx next x lx next x 0
+factoring-start {n} {p} {i} {v} {tr} {up} {ui} {lp} {li} {lx} {next} {x} r = record {
   lx_long = refl;
   next_long = refl;
   x_long = refl;
@@ -64,35 +62,28 @@ factoring-start {n} {p} {i} {v} {up} {ui} {lp} {li} {lx} {next} {x} r = record {
   reached = rw (held_none lp next lx) (reached-start (step_of n p i v) n);
 }
 
--- what a way out owes
-abbrev Owed : ℕ → List ℕ → List ℕ → List Float → Factored → List Float → Type 0
-Owed n p i v r lx = (r ≡ (upOf (matrix n n p i v)).answer) × (r.number ≡ 0 → lx ≡ flatten (upOf (matrix n n p i v)).columns)
-
-module _ {n : ℕ} {p i : List ℕ} {v : List Float} {up ui lp li : List ℕ} {lx₀ : List Float} {next₀ : List ℕ} {x₀ lx : List Float} {next : List ℕ}
+module _ {n : ℕ} {p i : List ℕ} {v : List Float} {tr up ui lp li : List ℕ} {lx₀ : List Float} {next₀ : List ℕ} {x₀ lx : List Float} {next : List ℕ}
     {x : List Float} {k : ℕ}
-    (w : Factoring n p i v up ui lp li lx₀ next₀ x₀ lx next x k) where
-  abbrev R : Ready n p i v up ui lp li lx next x
+    (w : Factoring (matrix n n p i v) (analysis tr up ui lp li) lx₀ next₀ x₀ lx next x k) where
+  abbrev R : Ready (matrix n n p i v) (analysis tr up ui lp li) lx next x
   R = w.ready
 
   module _ (h : k < n) where
-    pub factoring_asks : Turns k p i v up ui lp li lx next x
-    factoring_asks = record { n = n; here = h; ready = R; stands = w.stands }
-
-    module _ {lx1 : List Float} {next1 : List ℕ} {x1 : List Float} {pivot : Float} (g : Gone k p i v up ui lp li lx next x lx1 next1 x1 pivot) where
-      pub factoring_stop : not (lt none pivot) ≡ true → Owed n p i v (factored 11 k pivot) lx1
+    module _ {lx1 : List Float} {next1 : List ℕ} {x1 : List Float} {pivot : Float}
+        (g : Gone k (matrix n n p i v) (analysis tr up ui lp li) lx next x lx1 next1 x1 pivot) where
+      pub factoring_stop : lt none pivot ≡ false → (factored 11 k pivot ≡ (upOf (matrix n n p i v)).answer) × ((factored 11 k pivot).number ≡ 11)
       factoring_stop t =
-          let e = factor-is n p i v ∙ reached_stop (step_of n p i v) w.reached h (pivot_is R h g) (not-true (lt none pivot) t) in
-          (sym (ap (λ (f : Outcome). f.answer) e), λ z. absurd (omega arith))
+          let e = factor-is n p i v ∙ reached_stop (step_of n p i v) w.reached h (pivot_is R h g) t in
+          (sym (ap (λ (f : Outcome). f.answer) e), refl)
 
-      pub factoring_closes : not (lt none pivot) ≡ false → length lx1 ≡ length lx → length next1 ≡ length next → Closes k lp lx1 next1
-      factoring_closes t l m = column_closes R h g (not-false (lt none pivot) t) l m
+      pub factoring_closes : lt none pivot ≡ true → length lx1 ≡ length lx → length next1 ≡ length next → Closes k lp lx1 next1
+      factoring_closes t l m = column_closes R h g t l m
 
-      pub factoring-turn : {lx2 : List Float} {next2 : List ℕ} → not (lt none pivot) ≡ false → length lx1 ≡ length lx → length next1 ≡ length next →
+      pub factoring-turn : {lx2 : List Float} {next2 : List ℕ} → lt none pivot ≡ true → length lx1 ≡ length lx → length next1 ≡ length next →
           length x1 ≡ length x
           → (lx2 ≡ set lx1 (get_or lp k 0) (root_of pivot)) × (next2 ≡ set next1 k (get_or lp k 0 + 1)) →
-          Factoring n p i v up ui lp li lx₀ next₀ x₀ lx2 next2 x1 (k + 1)
+          Factoring (matrix n n p i v) (analysis tr up ui lp li) lx₀ next₀ x₀ lx2 next2 x1 (k + 1)
       factoring-turn t l m o c =
-          let b : lt none pivot ≡ true = not-false (lt none pivot) t in
           rw (c.0, c.1)
           (record {
             lx_long = length-set lx1 (get_or lp k 0) (root_of pivot) ∙ l ∙ w.lx_long;
@@ -107,8 +98,8 @@ module _ {n : ℕ} {p i : List ℕ} {v : List Float} {up ui lp li : List ℕ} {l
                   x_long = o ∙ R.x_long;
                   zeros = g.rowed.zeros ∙ ap (λ (z : ℕ). replicate z none) (o ∙ R.x_long);
                 };
-            stands = stands_more R h g b l m;
-            reached = reached-turn (step_of n p i v) w.reached h (pivot_is R h g) b (columns_are R h g b l m);
+            stands = stands_more R h g t l m;
+            reached = reached-turn (step_of n p i v) w.reached h (pivot_is R h g) t (columns_are R h g t l m);
           })
 
   -- L is whole
@@ -139,7 +130,7 @@ module _ {n : ℕ} {p i : List ℕ} {v : List Float} {up ui lp li : List ℕ} {l
         let z : entries (upper (columns (pattern n n p i))) - 0 ≡ length lx = omega (arith, R.lx_long) in
         sym (ap flatten (held-is n lp next lx) ∙ f ∙ (rw (e, L.start, L.end, z) (take-length lx)))
 
-    pub factoring-end : {r : Factored} → r ≡ factored 0 0 none → Owed n p i v r lx
-    factoring-end {r} q =
+    pub factoring-end : ((upOf (matrix n n p i v)).answer ≡ factored 0 0 none) × (lx ≡ flatten (upOf (matrix n n p i v)).columns)
+    factoring-end =
         let e = factor-is n p i v ∙ reached-end (step_of n p i v) w.reached h in
-        (q ∙ sym (ap (λ (f : Outcome). f.answer) e), λ z. whole ∙ sym (ap (λ (f : Outcome). flatten f.columns) e ∙ (rw at-end refl)))
+        (ap (λ (f : Outcome). f.answer) e, whole ∙ sym (ap (λ (f : Outcome). flatten f.columns) e ∙ (rw at-end refl)))

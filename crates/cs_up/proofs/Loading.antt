@@ -10,10 +10,9 @@ use lib.Ieee.{Float, nan}
 use lib.ListN.{length, get_or, set, drop, length-set, length-drop}
 use lib.Seq.{get_or-drop, get_or-set_other}
 use borrow.Author.Tests.{le-leb, lt-leb}
-use Rattle.lists.specs.Calls.{none}
 use Rattle.lists.specs.Folds.{over}
 use Rattle.lists.proofs.Bools.{le-or-lt}
-use Rattle.lists.proofs.Folds.{Over, over-start, over-turn, over-end}
+use Rattle.lists.proofs.Folds.{Over, over-turn, over-end}
 use Rattle.lists.proofs.Ordering.{rises-apart}
 use Rattle.cs_up.specs.Steps.{Loads}
 use Rattle.cs_up.specs.Up.{put_at}
@@ -38,14 +37,8 @@ pub record Loading (k : ℕ) (rows : List ℕ) (vals x₀ x : List Float) (q : �
   pub long : length x ≡ length x₀
   pub rest : Over (put_at k) rows vals x₀ x q
 
-pub loading_start : {k : ℕ} {rows : List ℕ} {vals x : List Float} → Loads k rows vals x → Loading k rows vals x x 0
-loading_start {k} {rows} {vals} {x} a = record { ask = a; long = refl; rest = over-start (put_at k) rows vals x }
-
 module _ {k : ℕ} {rows : List ℕ} {vals x₀ x : List Float} {q : ℕ} (w : Loading k rows vals x₀ x q) where
   module _ (h : q < length rows) {i : ℕ} (e : i ≡ get_or rows q 0) where
-    pub loading_row : i ≤ k → i < length x
-    loading_row g = omega (arith, w.ask.here, w.long)
-
     pub loading_turn : i ≤ k → Loading k rows vals x₀ (set x i (get_or vals q nan)) (q + 1)
     loading_turn g = record {
       ask = w.ask;
@@ -88,7 +81,3 @@ put_other k (r ∷ rows) (v ∷ vals) x i h =
     get_or-set_other x r i v nan (λ (e : i ≡ r). h 0 (omega arith) (sym e) (omega arith)))
     (λ (g : k < r). ap (λ (y : List Float). get_or y i nan) (put_past k r v x g))
     (le-or-lt r k)
-
--- what `start` answers and leaves of what `load` left
-pub started : (k : ℕ) {y z : List Float} → z ≡ y → (get_or z k nan ≡ get_or y k nan) × (set z k none ≡ set y k none)
-started k e = (ap (λ (y : List Float). get_or y k nan) e, ap (λ (y : List Float). set y k none) e)

@@ -202,9 +202,6 @@ module _ {k : ℕ} {u lp li : List ℕ} {lx₀ : List Float} {next₀ : List ℕ
       pub row-in-next : j < length next
       row-in-next = omega (arith, lens.1, a.here)
 
-      pub row-in_lp : j < length lp
-      row-in_lp = omega (arith, a.lies.lp_long, a.here)
-
       pub place_few : e < 4194304
       place_few = omega (arith, at_e.0, hi_in, a.lies.few)
 

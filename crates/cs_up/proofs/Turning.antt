@@ -23,7 +23,7 @@ use Rattle.root.specs.Root.{root_of}
 use Rattle.cs_matrix.specs.Matrix.{pattern, matrix, column}
 use Rattle.cs_matrix.proofs.Pointers.{Between, between, column-is}
 use Rattle.cs_tree.specs.Least.{In}
-use Rattle.cs_tree.specs.Pattern.{upper, lower, entries}
+use Rattle.cs_tree.specs.Pattern.{analysis, upper, lower, entries}
 use Rattle.cs_pattern.specs.Columns.{columns}
 use Rattle.cs_pattern.proofs.Columns.{column-at}
 use Rattle.cs_cholesky.specs.Factor.{Step}
@@ -50,8 +50,8 @@ none-stops : lt none none ≡ false
 unfolding lt of_bits
 none-stops = refl
 
-module _ {n k : ℕ} {p i : List ℕ} {v : List Float} {up ui lp li : List ℕ} {lx : List Float} {next : List ℕ} {x : List Float}
-    (R : Ready n p i v up ui lp li lx next x) (here : k < n) where
+module _ {n k : ℕ} {p i : List ℕ} {v : List Float} {tr up ui lp li : List ℕ} {lx : List Float} {next : List ℕ} {x : List Float}
+    (R : Ready (matrix n n p i v) (analysis tr up ui lp li) lx next x) (here : k < n) where
   abbrev S : Served n p i v up ui lp li R.room
   S = R.served
 
@@ -79,14 +79,8 @@ module _ {n k : ℕ} {p i : List ℕ} {v : List Float} {up ui lp li : List ℕ} 
       rise = rw (column-is stored i) (S.valid.pattern.rise k here);
     }
 
-  pub in_p : k + 1 < length p
-  in_p = omega (arith, S.valid.pattern.p_long)
-
   in_us : k < length us
   in_us = omega (arith, S.u_long)
-
-  pub in-up : k + 1 < length up
-  in-up = omega (arith, S.u_laid.pointed.long, S.u_long)
 
   -- U's column
   module _ {b f : ℕ} (y : b ≡ get_or up k 0) (z : f ≡ get_or up (k + 1) 0) where
@@ -160,7 +154,7 @@ module _ {n k : ℕ} {p i : List ℕ} {v : List Float} {up ui lp li : List ℕ} 
 
         pub column-gone : {lx1 : List Float} {next1 : List ℕ} {x2 : List Float} {pivot : Float}
             → (way x2 pivot (held k lp next1 lx1) ≡ goes k lp li (part b h ui) (way x1 first (held k lp next lx))) × Rowed k lp li next1 x2 →
-            Gone k p i v up ui lp li lx next x lx1 next1 x2 pivot
+            Gone k (matrix n n p i v) (analysis tr up ui lp li) lx next x lx1 next1 x2 pivot
         column-gone w =
             let c : part b h ui ≡ column up k ui = (rw (y, z) (sym (column_of up k ui))) in
             record {
@@ -193,7 +187,8 @@ module _ {n k : ℕ} {p i : List ℕ} {v : List Float} {up ui lp li : List ℕ} 
       one j s false e = refl
 
   -- column k has been gone through
-  module _ {lx1 : List Float} {next1 : List ℕ} {x1 : List Float} {pivot : Float} (w : Gone k p i v up ui lp li lx next x lx1 next1 x1 pivot) where
+  module _ {lx1 : List Float} {next1 : List ℕ} {x1 : List Float} {pivot : Float}
+      (w : Gone k (matrix n n p i v) (analysis tr up ui lp li) lx next x lx1 next1 x1 pivot) where
     way-is : way x1 pivot (held k lp next1 lx1) ≡ rows_at k ls (get_or us k []) (start_at (matrix n n p i v) k done)
     way-is = w.is ∙ goes-is (start_on k rows vals x done) ∙ ap (rows_at k ls (get_or us k [])) begins
 

@@ -1,2 +1,2 @@
-pub mod Up
 pub mod Steps
+pub mod Up

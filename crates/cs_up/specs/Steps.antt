@@ -9,9 +9,9 @@ use Rattle.lists.specs.Folds.{along, over}
 use Rattle.lists.specs.Order.{rises, Once}
 use Rattle.lists.specs.Parts.{part}
 use Rattle.lists.specs.Tables.{table}
-use Rattle.cs_matrix.specs.Matrix.{pattern, column}
+use Rattle.cs_matrix.specs.Matrix.{Matrix, column}
 use Rattle.cs_tree.specs.Least.{In}
-use Rattle.cs_tree.specs.Pattern.{upper, entries}
+use Rattle.cs_tree.specs.Pattern.{Analysis, upper, entries}
 use Rattle.cs_pattern.specs.Columns.{columns}
 use Rattle.cs_cholesky.specs.Served.{Served}
 use Rattle.cs_up.specs.Up.{put_at, Way, row_at}
@@ -119,32 +119,32 @@ pub record Closes (k : ℕ) (lp : List ℕ) (lx : List Float) (next : List ℕ) 
   pub few : length lx ≤ 4194304
 
 -- ---- all columns
--- a matrix of n columns with its own analysis, L's values as long as U has entries, and x zeros
-pub record Ready (n : ℕ) (p i : List ℕ) (v : List Float) (up ui lp li : List ℕ) (lx : List Float) (next : List ℕ) (x : List Float) : Type 0 where
+-- a square matrix with its own analysis, L's values as long as U has entries, and x zeros
+pub record Ready (a : Matrix) (given : Analysis) (lx : List Float) (next : List ℕ) (x : List Float) : Type 0 where
   pub room : ℕ
-  pub served : Served n p i v up ui lp li room
-  pub lx_long : length lx ≡ entries (upper (columns (pattern n n p i)))
-  pub next_long : length next ≡ n
-  pub x_long : length x ≡ n
-  pub zeros : x ≡ replicate n none
+  pub served : Served a.pattern.ncols a.pattern.p a.pattern.i a.v given.up given.ui given.lp given.li room
+  pub lx_long : length lx ≡ entries (upper (columns a.pattern))
+  pub next_long : length next ≡ a.pattern.ncols
+  pub x_long : length x ≡ a.pattern.ncols
+  pub zeros : x ≡ replicate a.pattern.ncols none
 
 -- and at column k
-pub record Turns (k : ℕ) (p i : List ℕ) (v : List Float) (up ui lp li : List ℕ) (lx : List Float) (next : List ℕ) (x : List Float) : Type 0 where
-  pub n : ℕ
-  pub here : k < n
-  pub ready : Ready n p i v up ui lp li lx next x
-  pub stands : Stands k k lp li next
+pub record Turns (k : ℕ) (a : Matrix) (given : Analysis) (lx : List Float) (next : List ℕ) (x : List Float) : Type 0 where
+  pub here : k < a.pattern.ncols
+  pub ready : Ready a given lx next x
+  pub stands : Stands k k given.lp given.li next
 
 -- column k gone through: x1, the pivot and L's columns are those of the steps, L's columns are worked out in row k too, and x is zeros
-pub record Gone (k : ℕ) (p i : List ℕ) (v : List Float) (up ui lp li : List ℕ) (lx : List Float) (next : List ℕ) (x lx1 : List Float)
-    (next1 : List ℕ) (x1 : List Float) (pivot : Float) : Type 0 where
-  pub is : way x1 pivot (held k lp next1 lx1) ≡ goes k lp li (column up k ui) (start_on k (column p k i) (column p k v) x (held k lp next lx))
-  pub rowed : Rowed k lp li next1 x1
+pub record Gone (k : ℕ) (a : Matrix) (given : Analysis) (lx : List Float) (next : List ℕ) (x lx1 : List Float) (next1 : List ℕ) (x1 : List Float)
+    (pivot : Float) : Type 0 where
+  pub is : way x1 pivot (held k given.lp next1 lx1) ≡ goes k given.lp given.li (column given.up k given.ui)
+      (start_on k (column a.pattern.p k a.pattern.i) (column a.pattern.p k a.v) x (held k given.lp next lx))
+  pub rowed : Rowed k given.lp given.li next1 x1
 
 -- ---- the whole
--- the slices that were lent, once they are judged: x has n zeros in front
-pub record Fills (n : ℕ) (p i : List ℕ) (v : List Float) (up ui lp li : List ℕ) (lx : List Float) (next : List ℕ) (x : List Float) : Type 0 where
-  pub served : Served n p i v up ui lp li (length lx)
-  pub in_next : n ≤ length next
-  pub in_x : n ≤ length x
-  pub zeros : part 0 n x ≡ replicate n none
+-- the slices that were lent, once they are judged: x has as many zeros in front as the square matrix has columns
+pub record Fills (a : Matrix) (given : Analysis) (lx : List Float) (next : List ℕ) (x : List Float) : Type 0 where
+  pub served : Served a.pattern.ncols a.pattern.p a.pattern.i a.v given.up given.ui given.lp given.li (length lx)
+  pub in_next : a.pattern.ncols ≤ length next
+  pub in_x : a.pattern.ncols ≤ length x
+  pub zeros : part 0 a.pattern.ncols x ≡ replicate a.pattern.ncols none

@@ -10,19 +10,17 @@ ghost use Rattle.lists.specs.Parts.{part};
 ghost use Rattle.lists.specs.Runs.{zipped};
 ghost use Rattle.cs_up.specs.Steps.{take_at, held, goes, way, Reads, Rows, Rowed};
 
-use lists::numbers::{smaller, wide};
+use lists::numbers::wide;
 use lists::tight::tight;
 
-// x(r) = x(r) - (value times t) for each of the rows r.
+// x(r) = x(r) - (value times t) for each of the rows r. By place: a zip tests two ends at each row.
 fn take_rows(t: f64, rows: &[u32], vals: &[f64], x: &mut [f64])
     requires { Entries (length x.old) rows.now vals.now }
     ensures { x.new ≡ over (take_at t) rows.now vals.now x.old }
 {
-    let mut z = 0;
-    while z < rows.len() {
-        let r = wide(rows[z]);
-        x[r] = x[r] - vals[z] * t;
-        z += 1;
+    for (q, &row) in rows.iter().enumerate() {
+        let r = wide(row);
+        x[r] -= vals[q] * t;
     }
 }
 
@@ -30,11 +28,9 @@ fn take_rows(t: f64, rows: &[u32], vals: &[f64], x: &mut [f64])
 fn take_run(t: f64, vals: &[f64], x: &mut [f64])
     ensures { x.new ≡ zipped (λ a v. sub binary64 a (mul binary64 v t)) x.old vals.now }
 {
-    let n = smaller(vals.len(), x.len());
-    let mut z = 0;
-    while z < n {
-        x[z] = x[z] - vals[z] * t;
-        z += 1;
+    let n = vals.len().min(x.len());
+    for z in 0..n {
+        x[z] -= vals[z] * t;
     }
 }
 
@@ -43,14 +39,12 @@ fn take_column(t: f64, rows: &[u32], vals: &[f64], x: &mut [f64])
     requires { Entries (length x.old) rows.now vals.now × (rises rows.now ≡ true) }
     ensures { x.new ≡ over (take_at t) rows.now vals.now x.old }
 {
-    if rows.len() > 7 {
-        if tight(rows) {
-            let first = wide(rows[0]);
-            take_run(t, vals, &mut x[first..first + vals.len()]);
-            return;
-        }
+    if rows.len() > 7 && tight(rows) {
+        let first = wide(rows[0]);
+        take_run(t, vals, &mut x[first..first + vals.len()]);
+    } else {
+        take_rows(t, rows, vals, x);
     }
-    take_rows(t, rows, vals, x);
 }
 
 // The value t of row k in column j, which lies from s to e with its diagonal first; it is put at e.
@@ -85,16 +79,14 @@ pub fn rows_at(
         × Rowed k lp.now li.now next.new x.new }
 {
     let mut pivot = first;
-    let mut q = 0;
-    while q < us.len() {
-        let j = wide(us[q]);
+    for &u in us {
+        let j = wide(u);
         if j < k {
             let e = next[j];
             let t = row_at(j, wide(lp[j]), wide(e), li, lx, x);
             next[j] = e + 1;
-            pivot = pivot - t * t;
+            pivot -= t * t;
         }
-        q += 1;
     }
     pivot
 }

@@ -7,20 +7,19 @@ ghost use Rattle.cs_up.specs.Steps.{Loads};
 ghost use Rattle.cs_up.specs.Up.{put_at};
 
 use lists::numbers::wide;
+use std::mem;
 
 // Puts the stored values of rows at and above k into x; rows that rise are past k from the first one on.
 fn load(k: usize, rows: &[u32], vals: &[f64], x: &mut [f64])
     requires { Loads k rows.now vals.now x.old }
     ensures { x.new ≡ over (put_at k) rows.now vals.now x.old }
 {
-    let mut q = 0;
-    while q < rows.len() {
-        let i = wide(rows[q]);
+    for (q, &row) in rows.iter().enumerate() {
+        let i = wide(row);
         if i > k {
             return;
         }
         x[i] = vals[q];
-        q += 1;
     }
 }
 
@@ -31,7 +30,5 @@ pub fn start(k: usize, rows: &[u32], vals: &[f64], x: &mut [f64]) -> f64
         (result ≡ get_or y k nan) × (x.new ≡ set y k none) }
 {
     load(k, rows, vals, x);
-    let pivot = x[k];
-    x[k] = 0.0;
-    pivot
+    mem::replace(&mut x[k], 0.0)
 }

@@ -12,13 +12,15 @@ use lib.Dec.{eqb, ltb}
 use lib.Ieee.{Float, nan}
 use lib.ListN.{length, get_or, take, drop, replicate, length-drop, drop_of_length-le}
 use denote.Ref.{Bor}
+use Rattle.std.proofs.Common.{Option, Some, None, Ok, Err}
+use Rattle.std.specs.Bool.{⊤}
+use Rattle.std.specs.Iterator.{YieldsFirst, MakesProgress, item_count}
+use Rattle.lists.specs.declared.refusal.Refusal.TheVariants.{Disagree}
 use Rattle.lists.specs.Choices.{some}
 use Rattle.lists.proofs.Bools.{eq-or-ne, le-or-lt, not-both}
 use Rattle.lists.proofs.Pairs.{pair_at}
-use Rattle.cs_walk.specs.Walk.{number, pairs, given, left, first, after, walked, moved, gives, paired, told, tells, Whole}
+use Rattle.cs_walk.specs.Walk.{number, checked, pairs, given, left, first, after, walked, moved, gives, told, tells, Whole}
 use Rattle.cs_walk.specs.declared.column_entries.ColumnEntries.{ColumnEntries}
-use Rattle.cs_walk.specs.declared.column_entries.Entry.{Entry}
-use Rattle.cs_walk.specs.declared.column_entries.Entry.TheVariants.{Pair, End}
 
 not-suc : {n : ℕ} → suc n ≡ 0 → ⊥
 not-suc e = omega (arith, e)
@@ -32,6 +34,15 @@ module _ (i : List ℕ) (v : List Float) where
   pub number_differs : (length i ≡ length v → ⊥) → 2 ≡ number i v
   unfolding number
   number_differs h = simp (ne_eqb _ _ h)
+
+  -- the answer, and its number
+  pub checked-same : length i ≡ length v → (0 ≡ number i v) × (Ok tt ≡ checked i v)
+  unfolding checked
+  checked-same e = (number_same e, simp (eq-eqb _ _ e))
+
+  pub checked-differs : (length i ≡ length v → ⊥) → (2 ≡ number i v) × (Err Disagree ≡ checked i v)
+  unfolding checked
+  checked-differs h = (number_differs h, simp (ne_eqb _ _ h))
 
   -- number 0 says that the lengths are equal
   pub number_means : number i v ≡ 0 → length i ≡ length v
@@ -137,11 +148,11 @@ module _ (k : ℕ) (i : List ℕ) (v : List Float) where
         empty (x ∷ l) n = absurd (not-both true refl n)
 
   -- ---- a step there
-  pub entry_here : There → Pair (get_or i k 0) (get_or v k nan) ≡ first (left k i v)
+  pub entry_here : There → Some (get_or i k 0, get_or v k nan) ≡ first (left k i v)
   unfolding first
   entry_here t = sym (ap first (left_pair t.alike t.inside))
 
-  pub entry_end : left k i v ≡ [] → End ≡ first (left k i v)
+  pub entry_end : left k i v ≡ [] → None ≡ first (left k i v)
   unfolding first
   entry_end n = sym (ap first n)
 
@@ -176,12 +187,12 @@ moved-end : (w : ColumnEntries) → walked w ≡ [] → walked (moved w) ≡ []
 unfolding left after
 moved-end w q = ap (λ (n : ℕ). drop n (given w.i.now w.v.now)) (ap (λ (l : List (ℕ × Float)). cond (some l) (w.curr + 1) w.curr) q) ∙ q
 
-ends : (m : ℕ) (w : ColumnEntries) → walked w ≡ [] → gives m w ≡ replicate m End
+ends : (m : ℕ) (w : ColumnEntries) → walked w ≡ [] → gives m w ≡ replicate m None
 unfolding gives first
 ends zero w q = refl
 ends (suc m) w q = rw (q, ends m (moved w) (moved-end w q))
 
-all-given : (l : List (ℕ × Float)) (m : ℕ) (w : ColumnEntries) → walked w ≡ l → gives (length l + m) w ≡ map paired l ++ replicate m End
+all-given : (l : List (ℕ × Float)) (m : ℕ) (w : ColumnEntries) → walked w ≡ l → gives (length l + m) w ≡ map Some l ++ replicate m None
 unfolding gives first
 all-given [] m w q = ap (λ (n : ℕ). gives n w) (zero-add m) ∙ ends m w q
 all-given (e ∷ l) m w q = ap (λ (n : ℕ). gives n w) (suc-add (length l) m) ∙ rw (q, all-given l m (moved w) (moved-rest w q))
@@ -192,14 +203,34 @@ unfolding told first
 told-first [] = refl
 told-first (e ∷ l) = refl
 
+-- a step as std's iterators say it: the first of what is left, and then the rest; at the end nothing, and nothing after it
+pub walk-steps : (w : ColumnEntries) {r : Option (ℕ × Float)} {t : ColumnEntries} → r ≡ first (walked w) → t ≡ moved w → YieldsFirst walked w r t
+unfolding first
+walk-steps w e f = rw (e, f) (go (walked w) refl)
+  where
+    go : (l : List (ℕ × Float)) → walked w ≡ l → YieldsFirst walked w (first l) (moved w)
+    go [] q = (q, moved-end w q)
+    go (x ∷ l) q = q ∙ ap (λ (m : List (ℕ × Float)). x ∷ m) (sym (moved-rest w q))
+
+pub walk-goes : (w : ColumnEntries) {r : Option (ℕ × Float)} {t : ColumnEntries} → r ≡ first (walked w) → t ≡ moved w
+    → MakesProgress (λ _. ⊤) (item_count walked) w r t
+unfolding first
+walk-goes w e f = rw (e, f) (go (walked w) refl)
+  where
+    go : (l : List (ℕ × Float)) → walked w ≡ l → MakesProgress (λ _. ⊤) (item_count walked) w (first l) (moved w)
+    go [] q = record { on = λ _. tt; keeps = tt; rests = λ _. tt }
+    go (x ∷ l) q =
+        let m : length (walked (moved w)) < length (walked w) = rw (q, moved-rest w q) (omega arith) in
+        record { on = λ _. (tt, tt, m); keeps = tt; rests = λ _. tt }
+
 -- no two entries tell the same
-pub told_only : (r s : Entry) → told r ≡ told s → r ≡ s
+pub told_only : (r s : Option (ℕ × Float)) → told r ≡ told s → r ≡ s
 unfolding told first
 told_only r s e = sym (back r) ∙ ap first e ∙ back s
   where
-    back : (r : Entry) → first (told r) ≡ r
-    back (Pair r x) = refl
-    back End = refl
+    back : (r : Option (ℕ × Float)) → first (told r) ≡ r
+    back (Some e) = refl
+    back None = refl
 
 tells-end : (n : ℕ) (w : ColumnEntries) → walked w ≡ [] → tells n w ≡ []
 unfolding gives first told flatten

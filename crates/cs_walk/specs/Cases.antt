@@ -1,12 +1,10 @@
 -- Worked cases: the definitions compute. Four calls over each column of document 01's matrix Q, whatever its values, over a single
 -- entry, over none, and over parts of unequal length. Assumes nothing.
-use Rattle.std.specs.Prelude.{List, [], ◌∷◌, map, ◌≡◌, ℕ, Float}
+use Rattle.std.specs.Prelude.{List, [], ◌∷◌, map, ◌≡◌, ℕ, Float, Option, Some, None}
 use Rattle.std.proofs.Math.Path.{refl}
 use Rattle.cs_matrix.specs.Matrix.{column}
 use Rattle.cs_walk.specs.Walk.{number, pairs, given, left, first, after, gives}
 use Rattle.cs_walk.specs.declared.column_entries.ColumnEntries.{ColumnEntries}
-use Rattle.cs_walk.specs.declared.column_entries.Entry.{Entry}
-use Rattle.cs_walk.specs.declared.column_entries.Entry.TheVariants.{Pair, End}
 
 module _ (a b c d e f g h j k : Float) where
   abbrev starts : List ℕ
@@ -28,19 +26,19 @@ module _ (a b c d e f g h j k : Float) where
   walkers : List ColumnEntries
   walkers = of_Q 0 ∷ of_Q 1 ∷ of_Q 2 ∷ of_Q 3 ∷ over (7 ∷ []) (a ∷ []) ∷ over [] [] ∷ over (7 ∷ []) [] ∷ over (7 ∷ []) (a ∷ b ∷ []) ∷ []
 
-  wanted : List (ℕ × List Entry)
+  wanted : List (ℕ × List (Option (ℕ × Float)))
   wanted =
-      (0, Pair 0 a ∷ Pair 2 b ∷ Pair 3 c ∷ End ∷ [])
-      ∷ (0, Pair 1 d ∷ Pair 3 e ∷ End ∷ End ∷ [])
-      ∷ (0, Pair 0 f ∷ Pair 2 g ∷ End ∷ End ∷ [])
-      ∷ (0, Pair 0 h ∷ Pair 1 j ∷ Pair 3 k ∷ End ∷ [])
-      ∷ (0, Pair 7 a ∷ End ∷ End ∷ End ∷ [])
-      ∷ (0, End ∷ End ∷ End ∷ End ∷ [])
-      ∷ (2, End ∷ End ∷ End ∷ End ∷ [])
-      ∷ (2, End ∷ End ∷ End ∷ End ∷ [])
+      (0, Some (0, a) ∷ Some (2, b) ∷ Some (3, c) ∷ None ∷ [])
+      ∷ (0, Some (1, d) ∷ Some (3, e) ∷ None ∷ None ∷ [])
+      ∷ (0, Some (0, f) ∷ Some (2, g) ∷ None ∷ None ∷ [])
+      ∷ (0, Some (0, h) ∷ Some (1, j) ∷ Some (3, k) ∷ None ∷ [])
+      ∷ (0, Some (7, a) ∷ None ∷ None ∷ None ∷ [])
+      ∷ (0, None ∷ None ∷ None ∷ None ∷ [])
+      ∷ (2, None ∷ None ∷ None ∷ None ∷ [])
+      ∷ (2, None ∷ None ∷ None ∷ None ∷ [])
       ∷ []
 
-  abbrev calls : ColumnEntries → ℕ × List Entry
+  abbrev calls : ColumnEntries → ℕ × List (Option (ℕ × Float))
   calls w = (number w.i.now w.v.now, gives 4 w)
 
   all_agree : map calls walkers ≡ wanted

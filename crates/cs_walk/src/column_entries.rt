@@ -1,9 +1,13 @@
 // The walker over one column: it holds the column's row part and value part and the position of the next entry. Each function
 // over it takes it apart and leaves the work to a step on a number and two slices. `next_entry` takes the parts and the
 // position themselves, for callers that hold no walker.
-ghost use Rattle.std.specs.Prelude.{◌≡◌, length, take};
+ghost use Rattle.std.specs.Prelude.{⊤, ◌≡◌, length, take};
+ghost use Rattle.std.specs.Iterator.{YieldsFirst, MakesProgress, item_count};
 ghost use Rattle.lists.specs.Choices.{some};
-ghost use Rattle.cs_walk.specs.Walk.{number, left, first, told, after, walked, moved, Whole, step};
+ghost use Rattle.lists.specs.Refusals.{numbered};
+ghost use Rattle.cs_walk.specs.Walk.{number, checked, left, first, told, after, walked, moved, Whole, step};
+
+use lists::refusal::Refusal;
 
 #[derive(Clone, Copy)]
 pub struct ColumnEntries<'a, 'b> {
@@ -12,29 +16,23 @@ pub struct ColumnEntries<'a, 'b> {
     v: &'b [f64],
 }
 
-#[derive(Clone, Copy)]
-pub enum Entry {
-    Pair(u32, f64),
-    End,
-}
-
 // What one step of a walk tells.
 #[derive(Clone, Copy)]
 pub struct Step {
-    pub number: u32,
-    pub entry: Entry,
+    pub answer: Result<(), Refusal>,
+    pub entry: Option<(u32, f64)>,
     pub curr: usize,
     pub left: usize,
 }
 
-// 2 where the parts have unequal lengths, else 0.
-pub fn check_parts(i: &[u32], v: &[f64]) -> u32
-    ensures { result ≡ number i.now v.now }
+// Parts of unequal lengths are refused.
+pub fn check_parts(i: &[u32], v: &[f64]) -> Result<(), Refusal>
+    ensures { (numbered result ≡ number i.now v.now) × (result ≡ checked i.now v.now) }
 {
     if i.len() != v.len() {
-        return 2;
+        return Err(Refusal::Disagree);
     }
-    0
+    Ok(())
 }
 
 // The parts have equal lengths, and an entry stands at the position.
@@ -42,40 +40,40 @@ pub fn check_parts(i: &[u32], v: &[f64]) -> u32
 fn entry_there(curr: usize, i: &[u32], v: &[f64]) -> bool
     ensures { result ≡ some (left curr i.now v.now) }
 {
-    if check_parts(i, v) != 0 {
-        return false;
-    }
-    curr < i.len()
+    check_parts(i, v).is_ok() && curr < i.len()
 }
 
 // The entry at a position, or the end.
-fn entry_at(curr: usize, i: &[u32], v: &[f64]) -> Entry
+fn entry_at(curr: usize, i: &[u32], v: &[f64]) -> Option<(u32, f64)>
     ensures { result ≡ first (left curr i.now v.now) }
 {
-    if !entry_there(curr, i, v) {
-        return Entry::End;
+    if entry_there(curr, i, v) {
+        Some((i[curr], v[curr]))
+    } else {
+        None
     }
-    Entry::Pair(i[curr], v[curr])
 }
 
 // The position behind it.
 fn curr_after(curr: usize, i: &[u32], v: &[f64]) -> usize
     ensures { result ≡ after curr i.now v.now }
 {
-    if !entry_there(curr, i, v) {
-        return curr;
+    if entry_there(curr, i, v) {
+        curr + 1
+    } else {
+        curr
     }
-    curr + 1
 }
 
 // How many entries are left from a position.
 fn left_at(curr: usize, i: &[u32], v: &[f64]) -> usize
     ensures { result ≡ length (left curr i.now v.now) }
 {
-    if !entry_there(curr, i, v) {
-        return 0;
+    if entry_there(curr, i, v) {
+        i.len() - curr
+    } else {
+        0
     }
-    i.len() - curr
 }
 
 impl<'a, 'b> ColumnEntries<'a, 'b> {
@@ -86,23 +84,11 @@ impl<'a, 'b> ColumnEntries<'a, 'b> {
         ColumnEntries { curr: 0, i, v }
     }
 
-    // 2 where the parts have unequal lengths, else 0.
-    pub fn number(self) -> u32
-        ensures { result ≡ number self.entry.i.now self.entry.v.now }
+    // Parts of unequal lengths are refused.
+    pub fn check(self) -> Result<(), Refusal>
+        ensures { (numbered result ≡ number self.entry.i.now self.entry.v.now) × (result ≡ checked self.entry.i.now self.entry.v.now) }
     {
         check_parts(self.i, self.v)
-    }
-
-    // The next entry, or the end, for ever.
-    pub fn next(&mut self) -> Entry
-        ensures { (result ≡ first (walked self.old)) × (told result ≡ take 1 (walked self.old)) × (self.new ≡ moved self.old) }
-    {
-        let curr = self.curr;
-        let i = self.i;
-        let v = self.v;
-        let entry = entry_at(curr, i, v);
-        self.curr = curr_after(curr, i, v);
-        entry
     }
 
     // How many entries are left.
@@ -113,17 +99,37 @@ impl<'a, 'b> ColumnEntries<'a, 'b> {
     }
 }
 
+impl Iterator for ColumnEntries<'_, '_> {
+    type Item = (u32, f64);
+
+    ghost next_gives = { YieldsFirst walked };
+
+    ghost remaining = { item_count walked };
+
+    // The next entry, or the end, for ever.
+    fn next(&mut self) -> Option<(u32, f64)>
+        ensures steps { YieldsFirst walked self.old result self.new }
+        ensures goes { MakesProgress (λ _. ⊤) (item_count walked) self.old result self.new }
+        ensures first { (result ≡ first (walked self.old)) × (told result ≡ take 1 (walked self.old)) × (self.new ≡ moved self.old) }
+    {
+        let ColumnEntries { curr, i, v } = *self;
+        self.curr = curr_after(curr, i, v);
+        entry_at(curr, i, v)
+    }
+}
+
 // One step of a walk from a position: what the walker says of the parts, the entry there or the end, the position behind it,
 // and how many entries are left from there.
 pub fn next_entry(curr: usize, i: &[u32], v: &[f64]) -> Step
-    ensures { (result ≡ step curr i.now v.now) × (told result.entry ≡ take 1 (left curr i.now v.now)) }
+    ensures { (numbered result.answer ≡ number i.now v.now) × (result ≡ step curr i.now v.now) ×
+        (told result.entry ≡ take 1 (left curr i.now v.now)) }
 {
     let mut entries = ColumnEntries::new(i, v);
     entries.curr = curr;
-    let number = entries.number();
+    let answer = entries.check();
     let entry = entries.next();
     Step {
-        number,
+        answer,
         entry,
         curr: entries.curr,
         left: entries.len(),

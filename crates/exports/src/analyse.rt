@@ -7,6 +7,9 @@ ghost use Rattle.cs_pattern.specs.Analyse.{number, written};
 ghost use Rattle.cs_pattern.specs.Columns.{columns};
 ghost use Rattle.cs_pattern.specs.Promise.{Analysed};
 
+use cs_matrix::matrix::Pattern;
+use lists::refusal::number;
+
 // The analysis of a pattern, in tree, up, ui, lp and li.
 #[unsafe(no_mangle)]
 pub extern "C" fn siwkatenor_analyse(
@@ -31,5 +34,6 @@ pub extern "C" fn siwkatenor_analyse(
         (scratch w1.new w2.new w3.new x.new) in
         (result ≡ number a old) × (new ≡ leaves result (needed a) (written (analysed (columns a)) old.out) old) × (result ≡ 0 → Analysed a new.out) }
 {
-    cs_pattern::analyse::analyse(nrows, ncols, p, i, tree, up, ui, lp, li, w1, w2, w3, x)
+    let a = Pattern { nrows, ncols, p, i };
+    number(cs_pattern::analyse::analyse(a, tree, up, ui, lp, li, w1, w2, w3, x))
 }

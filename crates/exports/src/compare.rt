@@ -5,6 +5,10 @@ ghost use Rattle.cs_matrix.specs.Matrix.{pattern, needed};
 ghost use Rattle.cs_tree.specs.Pattern.{analysis};
 ghost use Rattle.cs_pattern.specs.Compare.{number};
 
+use cs_matrix::matrix::Pattern;
+use cs_pattern::compare::Analysis;
+use lists::refusal::number;
+
 // The number that a lent analysis of a pattern gets, where L's values have the length room.
 #[unsafe(no_mangle)]
 pub extern "C" fn siwkatenor_compare(
@@ -29,7 +33,13 @@ pub extern "C" fn siwkatenor_compare(
         let new = scratch w1.new w2.new w3.new x.new in
         (result ≡ number a room given old) × (new ≡ worked result (needed a) old) }
 {
-    cs_pattern::compare::compare(
-        nrows, ncols, p, i, room, tree, up, ui, lp, li, w1, w2, w3, x,
-    )
+    let a = Pattern { nrows, ncols, p, i };
+    let given = Analysis {
+        tree,
+        up,
+        ui,
+        lp,
+        li,
+    };
+    number(cs_pattern::compare::compare(a, room, given, w1, w2, w3, x))
 }

@@ -4,6 +4,9 @@ ghost use Rattle.lists.specs.Calls.{scratch, lent, leaves};
 ghost use Rattle.cs_matrix.specs.Matrix.{stored, written};
 ghost use Rattle.cs_conversion.specs.Assembly.{triplets, needed_triplets, assembled, number, Assembled};
 
+use cs_conversion::assembly::Triplets;
+use lists::refusal::number;
+
 // The matrix of the triplets, in p, i and v.
 #[unsafe(no_mangle)]
 pub extern "C" fn siwkatenor_from_triplet(
@@ -25,5 +28,12 @@ pub extern "C" fn siwkatenor_from_triplet(
         let new = lent (stored p.new i.new v.new) (scratch w1.new w2.new w3.new x.new) in
         (result ≡ number t old) × (new ≡ leaves result (needed_triplets t) (written (assembled t) old.out) old) × (result ≡ 0 → Assembled t) }
 {
-    cs_conversion::assembly::from_triplet(nrows, ncols, irows, icols, vals, p, i, v, w1, w2, w3, x)
+    let t = Triplets {
+        nrows,
+        ncols,
+        irows,
+        icols,
+        vals,
+    };
+    number(cs_conversion::assembly::from_triplet(t, p, i, v, w1, w2, w3, x))
 }

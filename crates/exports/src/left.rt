@@ -8,6 +8,8 @@ ghost use Rattle.cs_cholesky.specs.Factor.{answer, written};
 ghost use Rattle.cs_left.specs.Left.{left, number};
 
 use cs_cholesky::Factored;
+use cs_matrix::matrix::{Matrix, Pattern};
+use cs_pattern::compare::Analysis;
 
 // Factors a matrix by its lent analysis: L's values are written to lx.
 #[unsafe(no_mangle)]
@@ -36,7 +38,13 @@ pub extern "C" fn siwkatenor_decompose_left_looking(
         (result ≡ answer (number a given old) (left a))
         × (new ≡ leaves result.number (needed (pattern nrows ncols p.now i.now)) (written t (left a) lx.old) old) }
 {
-    cs_left::left::decompose_left_looking(
-        nrows, ncols, p, i, v, tree, up, ui, lp, li, lx, w1, w2, w3, x,
-    )
+    let pattern = Pattern { nrows, ncols, p, i };
+    let given = Analysis {
+        tree,
+        up,
+        ui,
+        lp,
+        li,
+    };
+    cs_left::left::decompose_left_looking(Matrix { pattern, v }, given, lx, w1, w2, w3, x)
 }

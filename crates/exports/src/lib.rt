@@ -1,5 +1,5 @@
 // The library for C: each public call under its name with the prefix siwkatenor_, a slice as a pointer and a length, an answer
-// by value. Each contract is that of the call that it hands on to. The header is include/siwkatenor.h.
+// by value, a refusal as its number. Each contract is that of the call that it hands on to. The header is include/siwkatenor.h.
 #![tactic(auto)]
 
 pub mod analyse;

@@ -4,12 +4,15 @@ ghost use Rattle.lists.specs.Calls.{lowest, leaves, lent, scratch};
 ghost use Rattle.cs_matrix.specs.Matrix.{pattern, matrix, vector, judged_pattern, judged, judged_vector, stored, needed, written};
 ghost use Rattle.cs_transpose.specs.Transpose.{number, transposed, Turned};
 
+use cs_matrix::matrix::{Matrix, Pattern, Vector};
+use lists::refusal::number;
+
 // The lowest refusal number of a pattern, 0 for a valid one.
 #[unsafe(no_mangle)]
 pub extern "C" fn siwkatenor_check_pattern(nrows: usize, ncols: usize, p: &[u32], i: &[u32]) -> u32
     ensures { result ≡ lowest (judged_pattern (pattern nrows ncols p.now i.now)) }
 {
-    cs_matrix::check::check_pattern(nrows, ncols, p, i)
+    number(cs_matrix::check::check_pattern(Pattern { nrows, ncols, p, i }))
 }
 
 // The lowest refusal number of a matrix, 0 for a valid one.
@@ -23,7 +26,8 @@ pub extern "C" fn siwkatenor_check(
 ) -> u32
     ensures { result ≡ lowest (judged (matrix nrows ncols p.now i.now v.now)) }
 {
-    cs_matrix::check::check(nrows, ncols, p, i, v)
+    let pattern = Pattern { nrows, ncols, p, i };
+    number(cs_matrix::check::check(Matrix { pattern, v }))
 }
 
 // The lowest refusal number of a vector below the dimension n, 0 for a valid one.
@@ -31,7 +35,7 @@ pub extern "C" fn siwkatenor_check(
 pub extern "C" fn siwkatenor_check_vector(n: usize, i: &[u32], v: &[f64]) -> u32
     ensures { result ≡ lowest (judged_vector (vector n i.now v.now)) }
 {
-    cs_matrix::check::check_vector(n, i, v)
+    number(cs_matrix::check::check_vector(Vector { n, i, v }))
 }
 
 // The transpose of a matrix, in tp, ti and tv.
@@ -55,5 +59,6 @@ pub extern "C" fn siwkatenor_transpose(
         let new = lent (stored tp.new ti.new tv.new) (scratch w1.new w2.new w3.new x.new) in
         (result ≡ number a old) × (new ≡ leaves result (needed a.pattern) (written (transposed a) old.out) old) × (result ≡ 0 → Turned a) }
 {
-    cs_transpose::transpose::transpose(nrows, ncols, p, i, v, tp, ti, tv, w1, w2, w3, x)
+    let pattern = Pattern { nrows, ncols, p, i };
+    number(cs_transpose::transpose::transpose(Matrix { pattern, v }, tp, ti, tv, w1, w2, w3, x))
 }

@@ -5,6 +5,9 @@ ghost use Rattle.cs_matrix.specs.Matrix.{matrix, vector, judged};
 ghost use Rattle.cs_ops.specs.Axpy.{axpy as axpyOf, axpy_number};
 ghost use Rattle.cs_ops.specs.Scale.{scaled};
 
+use cs_matrix::matrix::{Pattern, Vector};
+use lists::refusal::number;
+
 // Each value of a matrix times s.
 #[unsafe(no_mangle)]
 pub extern "C" fn siwkatenor_scale(
@@ -18,7 +21,7 @@ pub extern "C" fn siwkatenor_scale(
     ensures { let a = matrix nrows ncols p.now i.now v.old in
         (result ≡ lowest (judged a)) × (v.new ≡ outputs result (scaled s v.old) v.old) }
 {
-    cs_ops::scale::scale(nrows, ncols, p, i, v, s)
+    number(cs_ops::scale::scale(Pattern { nrows, ncols, p, i }, v, s))
 }
 
 // y becomes α times x and β times y; x has the dimension n and the rows i with the values v.
@@ -34,5 +37,5 @@ pub extern "C" fn siwkatenor_axpy_cs(
     ensures { let x = vector n i.now v.now in
         (result ≡ axpy_number x y.old) × (y.new ≡ outputs result (axpyOf alpha x beta y.old) y.old) }
 {
-    cs_ops::axpy::axpy_cs(n, alpha, i, v, beta, y)
+    number(cs_ops::axpy::axpy_cs(alpha, Vector { n, i, v }, beta, y))
 }

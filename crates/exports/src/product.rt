@@ -4,6 +4,9 @@ ghost use Rattle.lists.specs.Calls.{leaves, lent, scratch};
 ghost use Rattle.cs_matrix.specs.Matrix.{matrix, stored, written, Valid};
 ghost use Rattle.cs_product.specs.Product.{product as productOf, needed_two, number};
 
+use cs_matrix::matrix::{Matrix, Pattern};
+use lists::refusal::number;
+
 // The product of two matrices, in op, oi and ov.
 #[unsafe(no_mangle)]
 pub extern "C" fn siwkatenor_product(
@@ -33,7 +36,19 @@ pub extern "C" fn siwkatenor_product(
         × (new ≡ leaves result (needed_two a.pattern b.pattern) (written (productOf a b) old.out) old)
         × (result ≡ 0 → Valid (productOf a b)) }
 {
-    cs_product::product::product(
-        nrows, ncols, ap, ai, av, bnrows, bncols, bp, bi, bv, op, oi, ov, w1, w2, w3, x,
-    )
+    let pattern = Pattern {
+        nrows,
+        ncols,
+        p: ap,
+        i: ai,
+    };
+    let a = Matrix { pattern, v: av };
+    let pattern = Pattern {
+        nrows: bnrows,
+        ncols: bncols,
+        p: bp,
+        i: bi,
+    };
+    let b = Matrix { pattern, v: bv };
+    number(cs_product::product::product(a, b, op, oi, ov, w1, w2, w3, x))
 }

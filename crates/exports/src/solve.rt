@@ -7,6 +7,7 @@ ghost use Rattle.cs_solve.specs.Judge.{number, answer, lacking_columns};
 ghost use Rattle.cs_solve.specs.Solve.{forward as forwardOf};
 ghost use Rattle.cs_solve.specs.TrSolve.{transposed as transposedOf};
 
+use cs_matrix::matrix::{Matrix, Pattern};
 use cs_solve::Solved;
 
 // Solves with the lower triangle of a matrix, the right side b in place.
@@ -23,7 +24,8 @@ pub extern "C" fn siwkatenor_solve_lower_triangular(
         let old = b.old in
         (result ≡ answer (number a old) (first_or 0 (lacking_columns a))) × (b.new ≡ outputs (number a old) (forwardOf a old) old) }
 {
-    cs_solve::solve::solve_lower_triangular(nrows, ncols, p, i, v, b)
+    let pattern = Pattern { nrows, ncols, p, i };
+    cs_solve::solve::solve_lower_triangular(Matrix { pattern, v }, b)
 }
 
 // Solves with the lower triangle of a matrix transposed, the right side b in place.
@@ -40,5 +42,6 @@ pub extern "C" fn siwkatenor_tr_solve_lower_triangular(
         let old = b.old in
         (result ≡ answer (number a old) (last_or 0 (lacking_columns a))) × (b.new ≡ outputs (number a old) (transposedOf a old) old) }
 {
-    cs_solve::tr_solve::tr_solve_lower_triangular(nrows, ncols, p, i, v, b)
+    let pattern = Pattern { nrows, ncols, p, i };
+    cs_solve::tr_solve::tr_solve_lower_triangular(Matrix { pattern, v }, b)
 }

@@ -7,6 +7,7 @@ ghost use Rattle.cs_solve.specs.Judge.{answer};
 ghost use Rattle.cs_solve_cs.specs.Agree.{Promised};
 ghost use Rattle.cs_solve_cs.specs.SolveCs.{stored, written, solution, lacking_reached, number};
 
+use cs_matrix::matrix::{Matrix, Pattern};
 use cs_solve::Solved;
 
 // Solves with the lower triangle of a matrix, the right side bi and bv, the result in xi and xv.
@@ -34,7 +35,16 @@ pub extern "C" fn siwkatenor_solve_lower_triangular_cs(
         × (new ≡ leaves (number a b old) (needed a.pattern) (written (solution a b) old.out) old)
         × (number a b old ≡ 0 → Promised a b) }
 {
+    let pattern = Pattern { nrows, ncols, p, i };
     cs_solve_cs::solve_cs::solve_lower_triangular_cs(
-        nrows, ncols, p, i, v, bi, bv, xi, xv, w1, w2, w3, x,
+        Matrix { pattern, v },
+        bi,
+        bv,
+        xi,
+        xv,
+        w1,
+        w2,
+        w3,
+        x,
     )
 }

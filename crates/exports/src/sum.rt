@@ -4,6 +4,9 @@ ghost use Rattle.lists.specs.Calls.{outputs};
 ghost use Rattle.cs_matrix.specs.Matrix.{matrix, stored, written, Valid};
 ghost use Rattle.cs_sum.specs.Sum.{sum as sum_of, number};
 
+use cs_matrix::matrix::{Matrix, Pattern};
+use lists::refusal::number;
+
 // The sum of two matrices, in op, oi and ov.
 #[unsafe(no_mangle)]
 pub extern "C" fn siwkatenor_sum(
@@ -27,7 +30,19 @@ pub extern "C" fn siwkatenor_sum(
         let new = stored op.new oi.new ov.new in
         (result ≡ number a b old) × (new ≡ outputs result (written (sum_of a b) old) old) × (result ≡ 0 → Valid (sum_of a b)) }
 {
-    cs_sum::sum::sum(
-        nrows, ncols, ap, ai, av, bnrows, bncols, bp, bi, bv, op, oi, ov,
-    )
+    let pattern = Pattern {
+        nrows,
+        ncols,
+        p: ap,
+        i: ai,
+    };
+    let a = Matrix { pattern, v: av };
+    let pattern = Pattern {
+        nrows: bnrows,
+        ncols: bncols,
+        p: bp,
+        i: bi,
+    };
+    let b = Matrix { pattern, v: bv };
+    number(cs_sum::sum::sum(a, b, op, oi, ov))
 }

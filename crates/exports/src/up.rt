@@ -8,6 +8,8 @@ ghost use Rattle.cs_cholesky.specs.Factor.{answer as answer_of, written};
 ghost use Rattle.cs_up.specs.Up.{up as upOf, number};
 
 use cs_cholesky::Factored;
+use cs_matrix::matrix::{Matrix, Pattern};
+use cs_pattern::compare::Analysis;
 
 // The up factoring of a matrix by a lent analysis: L's values in lx.
 #[unsafe(no_mangle)]
@@ -35,7 +37,13 @@ pub extern "C" fn siwkatenor_decompose_up_looking(
         let t = entries (upper (columns a.pattern)) in
         (result ≡ answer_of (number a given old) (upOf a)) × (new ≡ leaves result.number (needed a.pattern) (written t (upOf a) old.out) old) }
 {
-    cs_up::up::decompose_up_looking(
-        nrows, ncols, p, i, v, tree, up, ui, lp, li, lx, w1, w2, w3, x,
-    )
+    let pattern = Pattern { nrows, ncols, p, i };
+    let given = Analysis {
+        tree,
+        up,
+        ui,
+        lp,
+        li,
+    };
+    cs_up::up::decompose_up_looking(Matrix { pattern, v }, given, lx, w1, w2, w3, x)
 }

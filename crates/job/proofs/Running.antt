@@ -2,7 +2,7 @@
 -- the fronts of the slices. Assumes nothing.
 use mathlib.Core.Bool.{Bool, true, false, not, cond, ◌&&◌, true≢false}
 use mathlib.Core.Logic.{⊎_elim, ◌⊎◌}
-use mathlib.Core.Path.{◌≡◌, refl, sym, ap, subst, ◌∙◌}
+use mathlib.Core.Path.{◌≡◌, sym, ap, ◌∙◌}
 use mathlib.Core.List.{List, [], ◌∷◌, ◌++◌, flatten, append_assoc, append-nil}
 use Prim.Native.Nat.{ℕ, ◌+◌, ◌≤◌, ◌<◌}
 use native.Mathlib.Omega.{arith}
@@ -36,7 +36,7 @@ use Rattle.cs_up.specs.Up.{up, number as upNumber}
 use Rattle.cs_up.proofs.Calling.{up_ends}
 use Rattle.cs_solve.specs.declared.Solved.{Solved}
 use Rattle.job.specs.Run.{Result, answered, after, factoring, values_room, factor_number, factored, lower_matrix, solved, run}
-use Rattle.job.specs.Steps.{held_matrix, Prepared}
+use Rattle.job.specs.Steps.{Prepared}
 use Rattle.job.proofs.Sizes.{left_long, up_long}
 use Rattle.job.proofs.Solving.{Owed, owed_stop, owed_go}
 
@@ -140,13 +140,7 @@ last-two true true false d e h = absurd (true≢false (sym h))
 last-two true false c d e h = absurd (true≢false (sym h))
 last-two false b c d e h = absurd (true≢false (sym h))
 
--- the matrix a is small, and g holds its analysis, with no more entries than there is room for values
-record Ready (a : Matrix) (g : Analysis) : Type 0 where
-  pub small : a.pattern.ncols ≤ 256
-  pub own : same (analysed (columns a.pattern)) g ≡ true
-  pub few : length g.li ≤ 2048
-
-module _ (a : Matrix) (g : Analysis) (q : Ready a g) where
+module _ (a : Matrix) (g : Analysis) (q : Prepared a g) where
   abbrev n : ℕ
   n = a.pattern.ncols
 
@@ -169,7 +163,7 @@ module _ (a : Matrix) (g : Analysis) (q : Ready a g) where
   unfolding analysed
   lp_long = omega (arith, length-starts 0 (lower cols), lower_long)
 
-  in_lp : n < length g.lp
+  pub in_lp : a.pattern.ncols < length g.lp
   in_lp = omega (arith, starts_long f.lp g.lp parts.0, lp_long)
 
   run-last : get_or g.lp n 0 ≡ length f.li
@@ -180,10 +174,10 @@ module _ (a : Matrix) (g : Analysis) (q : Ready a g) where
       ∙ ap entries (take_all n (lower cols) (omega (arith, lower_long)))
       ∙ sym (length-laid (lower cols))
 
-  run_li : get_or g.lp n 0 ≤ length g.li
+  pub run_li : get_or g.lp a.pattern.ncols 0 ≤ length g.li
   run_li = omega (arith, run-last, starts_long f.li g.li parts.1)
 
-  run_few : get_or g.lp n 0 ≤ 2048
+  pub run_few : get_or g.lp a.pattern.ncols 0 ≤ 2048
   run_few = omega (arith, run_li, q.few)
 
   lp_is : take (n + 1) g.lp ≡ f.lp
@@ -203,9 +197,9 @@ module _ (a : Matrix) (g : Analysis) (q : Ready a g) where
     abbrev then : Result
     then = solved (lower_matrix a (factoring engine a)) b
 
-    refused : (r.number ≡ 0 → ⊥) → Owed (run engine a b) (record { number = r.number; column = r.column }) b
+    pub run-refused : (r.number ≡ 0 → ⊥) → Owed (run engine a b) (record { number = r.number; column = r.column }) b
     unfolding run
-    refused z =
+    run-refused z =
         let o = owed_stop r.number r.column then b z in
         (o.0 ∙ ap (λ (y : Factored). answered (after y.number y.column then)) r_is, λ e. absurd (z e))
 
@@ -234,53 +228,13 @@ module _ (a : Matrix) (g : Analysis) (q : Ready a g) where
       unfolding lower_matrix
       held = λ k. matrix n n (lp_is k) (li_is k) (values_are k)
 
-      solved_there : {s : Solved} {b1 : List Float} {m : ℕ} → m ≡ get_or g.lp n 0
-          → Owed (solved (matrix n n (take (n + 1) g.lp) (take m g.li) (take m lx)) b) s b1 → Owed (run engine a b) s b1
+      pub run-done : {s : Solved} {b1 : List Float} {m : ℕ} → m ≡ get_or g.lp a.pattern.ncols 0
+          → Owed (solved (matrix a.pattern.ncols a.pattern.ncols (take (a.pattern.ncols + 1) g.lp) (take m g.li) (take m lx)) b) s b1
+          → Owed (run engine a b) s b1
       unfolding run
-      solved_there {s = s} {b1 = b1} e o =
+      run-done {s = s} {b1 = b1} e o =
           let o1 = rw (e, held) at o in
           let w = owed_go r.number r.column then z o1 in (
             w.0 ∙ ap (λ (y : Factored). answered (after y.number y.column then)) r_is,
             λ h. w.1 h ∙ ap (λ (y : Factored). (after y.number y.column then).x) r_is,
           )
-
--- ---- the same of the program's arrays
-module _ (n : ℕ) (p i : List ℕ) (v : List Float) (g : Analysis) (q : Prepared n p i v g) (lp : length p ≡ 257) (ll : length g.li ≡ 2048) where
-  abbrev there : Matrix
-  there = held_matrix n p i v
-
-  square : there.pattern.ncols ≡ n
-  unfolding held_matrix
-  square = refl
-
-  ready : Ready there g
-  ready = record { small = omega (arith, square, q.pointers, lp); own = q.own; few = omega (arith, ll) }
-
-  pub run_lp : n < length g.lp
-  run_lp = let h = in_lp there g ready in rw (square) at h
-
-  pub run_room : (get_or g.lp n 0 ≤ length g.li) × (get_or g.lp n 0 ≤ 2048)
-  run_room = let h = run_li there g ready in let k = run_few there g ready in (rw (square) at h, rw (square) at k)
-
-  module _ (engine : ℕ) (b : List Float) {m : ℕ} (e : m ≡ get_or p n 0) (r : Factored) (lx : List Float) where
-    -- what the factoring answers of the parts
-    abbrev Answers : Matrix → Type 0
-    Answers a =
-        (r ≡ answer (factor_number engine a g values_room) (factoring engine a))
-        × (lx ≡ outputs r.number (written (entries (upper (columns a.pattern))) (factoring engine a) (replicate 2048 none)) (replicate 2048 none))
-
-    module _ (c : (r ≡ answer (factor_number engine (matrix n n (take (n + 1) p) (take m i) (take m v)) g values_room)
-        (factoring engine (matrix n n (take (n + 1) p) (take m i) (take m v))))
-        × (lx ≡ outputs r.number (written (entries (upper (columns (matrix n n (take (n + 1) p) (take m i) (take m v)).pattern)))
-        (factoring engine (matrix n n (take (n + 1) p) (take m i) (take m v))) (replicate 2048 none)) (replicate 2048 none))) where
-      answers : Answers there
-      unfolding held_matrix
-      answers = subst Answers (ap (λ (k : ℕ). matrix n n (take (n + 1) p) (take k i) (take k v)) e) c
-
-      pub run-refused : (r.number ≡ 0 → ⊥) → Owed (run engine (held_matrix n p i v) b) (record { number = r.number; column = r.column }) b
-      run-refused = refused there g ready engine b answers
-
-      pub run-done : {s : Solved} {b1 : List Float} {t : ℕ} → r.number ≡ 0 → t ≡ get_or g.lp n 0
-          → Owed (solved (matrix n n (take (n + 1) g.lp) (take t g.li) (take t lx)) b) s b1 → Owed (run engine (held_matrix n p i v) b) s b1
-      unfolding held_matrix
-      run-done z f o = solved_there there g ready engine b answers z f o

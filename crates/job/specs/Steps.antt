@@ -1,17 +1,12 @@
 -- What the run of a job starts from. Assumes nothing.
-use Rattle.std.specs.Prelude.{true, List, ◌≡◌, ℕ, ◌+◌, ◌≤◌, ◌<◌, Float, length, get_or, take}
-use Rattle.cs_matrix.specs.Matrix.{Matrix, matrix}
+use Rattle.std.specs.Prelude.{true, ◌≡◌, ◌≤◌, length}
+use Rattle.cs_matrix.specs.Matrix.{Matrix}
 use Rattle.cs_tree.specs.Pattern.{Analysis, analysed}
 use Rattle.cs_pattern.specs.Columns.{columns}
 use Rattle.cs_pattern.specs.Compare.{same}
 
--- the matrix that the fronts of the slices hold, its entry count being the last pointer
-unfoldable pub held_matrix : ℕ → List ℕ → List ℕ → List Float → Matrix
-held_matrix n p i v = matrix n n (take (n + 1) p) (take (get_or p n 0) i) (take (get_or p n 0) v)
-
--- there is such a matrix, and g holds its analysis
-pub record Prepared (n : ℕ) (p i : List ℕ) (v : List Float) (g : Analysis) : Type 0 where
-  pub pointers : n < length p
-  pub rows : get_or p n 0 ≤ length i
-  pub values : get_or p n 0 ≤ length v
-  pub own : same (analysed (columns (held_matrix n p i v).pattern)) g ≡ true
+-- the matrix a is within the program's maxima, and g holds its analysis, with no more entries of L than there is room for values
+pub record Prepared (a : Matrix) (g : Analysis) : Type 0 where
+  pub small : a.pattern.ncols ≤ 256
+  pub own : same (analysed (columns a.pattern)) g ≡ true
+  pub few : length g.li ≤ 2048

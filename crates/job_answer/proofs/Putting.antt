@@ -60,14 +60,12 @@ refusal-put number column {a = a} {b = b} h p q r =
 
 -- ---- the rows so far
 pub record Rows (old : List ℕ) (x : List Float) (out : List ℕ) (at row : ℕ) : Type 0 where
-  pub within : row ≤ length x
   pub here : at ≡ 14 * row
-  pub long : length out ≡ length old
   pub rest : take at out ++ text (rows row (drop row x)) ≡ text (rows 0 x)
   pub behind : drop at out ≡ drop at old
 
 pub rows_start : (old : List ℕ) (x : List Float) → Rows old x old 0 0
-rows_start old x = record { within = omega arith; here = refl; long = refl; rest = refl; behind = refl }
+rows_start old x = record { here = refl; rest = refl; behind = refl }
 
 text-one : (row : ℕ) (x : Float) (xs : List Float) → text (rows row (x ∷ xs)) ≡ bytes_of (XV row x) ++ text (rows (row + 1) xs)
 unfolding text rows
@@ -77,33 +75,29 @@ text-none : (row : ℕ) → text (rows row []) ≡ []
 unfolding text rows
 text-none row = refl
 
-pub rows-turn : (d : Float) {old : List ℕ} {x : List Float} {out new : List ℕ} {at row r e : ℕ} → Rows old x out at row → row < length x → r ≡ row
-    → (e ≡ at + 14) × Put out at (bytes_of (XV r (get_or x row d))) e new → length new ≡ length out → Rows old x new e (row + 1)
-rows-turn d {old = old} {x = x} {out = out} {new = new} {at = at} {row = row} {r = r} {e = e} w h m p l =
+pub rows-turn : (d : Float) {old : List ℕ} {x : List Float} {out new : List ℕ} {at row e : ℕ} → Rows old x out at row → row < length x
+    → (e ≡ at + 14) × Put out at (bytes_of (XV row (get_or x row d))) e new → Rows old x new e (row + 1)
+rows-turn d {old = old} {x = x} {out = out} {new = new} {at = at} {row = row} {e = e} w h p =
     let f = w.rest in
     let g = rw (left_at x row d h, text-one row (get_or x row d) (drop (row + 1) x)) at f in
-    let q = p.1.front in
-    let q1 = rw m at q in
     record {
-      within = omega arith;
       here = omega (arith, p.0, w.here);
-      long = l ∙ w.long;
       rest =
-          ap (λ (y : List ℕ). y ++ text (rows (row + 1) (drop (row + 1) x))) q1
+          ap (λ (y : List ℕ). y ++ text (rows (row + 1) (drop (row + 1) x))) p.1.front
           ∙ append_assoc (take at out) (bytes_of (XV row (get_or x row d))) (text (rows (row + 1) (drop (row + 1) x)))
           ∙ g;
       behind = p.1.behind ∙ drop_further at e out old (omega (arith, p.0)) w.behind;
     }
 
-pub rows-done : {old : List ℕ} {x : List Float} {out : List ℕ} {at row : ℕ} → 14 * length x ≤ length old → Rows old x out at row → length x ≤ row
+pub rows-done : {old : List ℕ} {x : List Float} {out : List ℕ} {at row : ℕ} → 14 * length x ≤ length out → row ≡ length x → Rows old x out at row
     → (at ≡ 14 * length x) × Put old 0 (text (rows 0 x)) at out
-rows-done {old = old} {x = x} {out = out} {at = at} {row = row} r w h =
+rows-done {old = old} {x = x} {out = out} {at = at} {row = row} r h w =
     let f = w.rest in
-    let g = rw (left-none x row h, text-none row) at f in
+    let g = rw (left-none x row (omega arith), text-none row) at f in
     let t : take at out ≡ text (rows 0 x) = sym (append-nil (take at out)) ∙ g in
-    let e : length (take at out) ≡ at = length-take-le at out (omega (arith, w.within, w.here, w.long, r)) in
+    let e : length (take at out) ≡ at = length-take-le at out (omega (arith, w.here, h, r)) in
     let n : length (text (rows 0 x)) ≡ at = sym (ap length t) ∙ e in
-    (omega (arith, w.within, w.here), record { end = omega (arith, n); front = t; behind = w.behind })
+    (omega (arith, h, w.here), record { end = omega (arith, n); front = t; behind = w.behind })
 
 -- how long the rows are
 length-row : (row : ℕ) (x : Float) → length (bytes_of (XV row x)) ≡ 14

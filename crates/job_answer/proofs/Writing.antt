@@ -8,36 +8,35 @@ use native.Mathlib.Omega.{arith}
 use lib.Ieee.{Float}
 use lib.ListN.{length, drop, take-append-drop}
 use borrow.Author.Tests.{lt-ltb, le-ltb}
+use Rattle.std.specs.Prelude.{Result, Ok, Err, IsOk}
 use Rattle.lists.specs.Calls.{onto}
-use Rattle.lists.proofs.Bools.{le-or-lt, eq-or-ne}
-use Rattle.job_answer.specs.declared.Wrote.{Wrote}
+use Rattle.lists.specs.declared.refusal.Refusal.{Refusal}
+use Rattle.lists.specs.declared.refusal.Refusal.TheVariants.{NoRoom}
+use Rattle.lists.proofs.Bools.{eq-or-ne}
 use Rattle.little.specs.Little.{bytes}
 use Rattle.job_answer.specs.Lines.{NO, bytes_of, text, rows, lines}
-use Rattle.job_answer.specs.Answer.{wrote, answer, leaves, Put}
+use Rattle.job_answer.specs.Answer.{answer, leaves, Put}
 use Rattle.job_answer.proofs.Putting.{length-rows}
 
-short : (w old : List ℕ) → length old < length w → (wrote 7 0 ≡ answer w old) × (old ≡ leaves w old)
+short : (w old : List ℕ) → length old < length w → (Err NoRoom ≡ answer w old) × (old ≡ leaves w old)
 unfolding answer leaves
 short w old h =
     let e = lt-ltb (length old) (length w) h in
-    (sym (ap (λ (b : Bool). cond b (wrote 7 0) (wrote 0 (length w))) e), sym (ap (λ (b : Bool). cond b old (onto old w)) e))
+    (sym (ap (λ (b : Bool). cond b (Err NoRoom) (Ok (length w))) e), sym (ap (λ (b : Bool). cond b old (onto old w)) e))
 
--- what was written is within the slice, whichever way
-pub written-within : (w old new : List ℕ) (r : Wrote) → r ≡ answer w old → length new ≡ length old → r.written ≤ length new
-unfolding answer
-written-within w old new r e l =
-    ⊎_elim
-    (λ (h : length w ≤ length old).
-    let f : r.written ≡ length w = ap (λ (x : Wrote). x.written) e ∙ ap (λ (b : Bool). (cond b (wrote 7 0) (wrote 0 (length w))).written)
-    (le-ltb (length old) (length w) h) in
-    omega (arith, f, h, l))
-    (λ (h : length old < length w).
-    let f : r.written ≡ 0 = ap (λ (x : Wrote). x.written) e ∙ ap (λ (b : Bool). (cond b (wrote 7 0) (wrote 0 (length w))).written)
-    (lt-ltb (length old) (length w) h) in
-    omega (arith, f))
-    (le-or-lt (length w) (length old))
+-- where there is room for all of it, it is written, and stays within the slice
+module _ (w old : List ℕ) (r : Result ℕ Refusal) (e : r ≡ answer w old) (h : length w ≤ length old) where
+  all-written : r ≡ Ok (length w)
+  unfolding answer
+  all-written = e ∙ ap (λ (b : Bool). cond b (Err NoRoom) (Ok (length w))) (le-ltb (length old) (length w) h)
 
-room : (w old new : List ℕ) (e : ℕ) → length w ≤ length old → Put old 0 w e new → (wrote 0 e ≡ answer w old) × (new ≡ leaves w old)
+  pub written-ok : IsOk r
+  written-ok = rw all-written refl
+
+  pub written-within : (n : ℕ) (new : List ℕ) → r ≡ Ok n → length new ≡ length old → n ≤ length new
+  written-within n new f l = let g : n ≡ length w = cc (all-written, f) in omega (arith, g, h, l)
+
+room : (w old new : List ℕ) (e : ℕ) → length w ≤ length old → Put old 0 w e new → (Ok e ≡ answer w old) × (new ≡ leaves w old)
 unfolding answer leaves onto
 room w old new e h p =
     let f = le-ltb (length old) (length w) h in
@@ -45,7 +44,7 @@ room w old new e h p =
     let i : new ≡ w ++ drop (length w) old =
     sym (take-append-drop e new) ∙ ap (λ (l : List ℕ). l ++ drop e new) p.front ∙ ap (λ (l : List ℕ). w ++ l) p.behind ∙
     ap (λ (k : ℕ). w ++ drop k old) g in (
-      ap (wrote 0) g ∙ sym (ap (λ (b : Bool). cond b (wrote 7 0) (wrote 0 (length w))) f),
+      ap Ok g ∙ sym (ap (λ (b : Bool). cond b (Err NoRoom) (Ok (length w))) f),
       i ∙ sym (ap (λ (b : Bool). cond b old (w ++ drop (length w) old)) f),
     )
 
@@ -63,11 +62,11 @@ module _ (number column : ℕ) (x : List Float) (h : number ≡ 0 → ⊥) (old 
   refusal_long : length (text (lines number column x)) ≡ 7
   refusal_long = sym (ap length (refusal_is number column x h)) ∙ seven number column
 
-  pub refusal-short : length old < 7 → (wrote 7 0 ≡ answer (text (lines number column x)) old) × (old ≡ leaves (text (lines number column x)) old)
+  pub refusal-short : length old < 7 → (Err NoRoom ≡ answer (text (lines number column x)) old) × (old ≡ leaves (text (lines number column x)) old)
   refusal-short l = short (text (lines number column x)) old (omega (arith, l, refusal_long))
 
   pub refusal-room : {new : List ℕ} {e r c : ℕ} → r ≡ number → c ≡ column → 7 ≤ length old → Put old 0 (bytes_of (NO r c)) e new
-      → (wrote 0 e ≡ answer (text (lines number column x)) old) × (new ≡ leaves (text (lines number column x)) old)
+      → (Ok e ≡ answer (text (lines number column x)) old) × (new ≡ leaves (text (lines number column x)) old)
   refusal-room {new = new} {e = e} f g l p =
       let q = rw (f, g, refusal_is number column x h) at p in
       room (text (lines number column x)) old new e (omega (arith, l, refusal_long)) q
@@ -82,12 +81,12 @@ module _ (number column : ℕ) (x : List Float) (h : number ≡ 0) (old : List �
   rows_long : length (text (lines number column x)) ≡ 14 * length x
   rows_long = sym (ap length (rows_are number column x h)) ∙ length-rows 0 x
 
-  pub rows_short : length old / 14 < length x → (wrote 7 0 ≡ answer (text (lines number column x)) old) ×
+  pub rows_short : length old / 14 < length x → (Err NoRoom ≡ answer (text (lines number column x)) old) ×
       (old ≡ leaves (text (lines number column x)) old)
   rows_short l = short (text (lines number column x)) old (omega (arith, l, rows_long))
 
   pub rows-room : {new : List ℕ} {e : ℕ} → length x ≤ length old / 14 → Put old 0 (text (rows 0 x)) e new
-      → (wrote 0 e ≡ answer (text (lines number column x)) old) × (new ≡ leaves (text (lines number column x)) old)
+      → (Ok e ≡ answer (text (lines number column x)) old) × (new ≡ leaves (text (lines number column x)) old)
   rows-room {new = new} {e = e} l p =
       let q = rw (rows_are number column x h) at p in
       room (text (lines number column x)) old new e (omega (arith, l, rows_long)) q

@@ -1,14 +1,12 @@
 -- What is left behind by the writing of an answer's bytes. Assumes nothing.
-use Rattle.std.specs.Prelude.{cond, ◌≡◌, List, ◌++◌, ℕ, ◌+◌, ltb, length, take, drop}
+use Rattle.std.specs.Prelude.{cond, ◌≡◌, List, ◌++◌, ℕ, ◌+◌, Result, Ok, Err, ltb, length, take, drop}
 use Rattle.lists.specs.Calls.{onto}
-use Rattle.job_answer.specs.declared.Wrote.{Wrote}
+use Rattle.lists.specs.declared.refusal.Refusal.{Refusal}
+use Rattle.lists.specs.declared.refusal.Refusal.TheVariants.{NoRoom}
 
-abbrev pub wrote : ℕ → ℕ → Wrote
-wrote number written = record { number = number; written = written }
-
--- 7 where the slice is shorter than the bytes w, else 0 and how many there are
-unfoldable pub answer : List ℕ → List ℕ → Wrote
-answer w old = cond (ltb (length old) (length w)) (wrote 7 0) (wrote 0 (length w))
+-- 7 where the slice is shorter than the bytes w, else how many there are
+unfoldable pub answer : List ℕ → List ℕ → Result ℕ Refusal
+answer w old = cond (ltb (length old) (length w)) (Err NoRoom) (Ok (length w))
 
 -- by 7 the slice is as it was, else it starts with w, excess length unchanged
 unfoldable pub leaves : List ℕ → List ℕ → List ℕ

@@ -3,10 +3,3 @@
 
 mod put;
 pub mod write;
-
-// How many bytes were written; 7 where the slice is too short for them, and then none.
-#[derive(Clone, Copy)]
-pub struct Wrote {
-    pub number: u32,
-    pub written: usize,
-}

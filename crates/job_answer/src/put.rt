@@ -28,22 +28,14 @@ pub fn put_refusal(out: &mut [u8], number: u64, column: u64) -> usize
     7
 }
 
-fn index(k: usize) -> u64
-    ensures { result ≡ k }
-{
-    k as u64
-}
-
 // An XV for each of x.
 pub fn put_rows(out: &mut [u8], x: &[f64]) -> usize
     requires { 14 * length x.now ≤ length out.old }
     ensures { (result ≡ 14 * length x.now) × Put out.old 0 (text (rows 0 x.now)) result out.new }
 {
     let mut at = 0;
-    let mut row = 0;
-    while row < x.len() {
-        at = put_row(out, at, index(row), x[row]);
-        row += 1;
+    for (row, &value) in x.iter().enumerate() {
+        at = put_row(out, at, row as u64, value);
     }
     at
 }

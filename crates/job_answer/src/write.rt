@@ -3,42 +3,23 @@ ghost use Rattle.std.specs.Prelude.{◌≡◌};
 ghost use Rattle.job_answer.specs.Lines.{text, lines};
 ghost use Rattle.job_answer.specs.Answer.{answer, leaves};
 
-use crate::Wrote;
 use crate::put::{put_refusal, put_rows};
+use lists::refusal::Refusal;
 
-fn wide(x: u32) -> u64
-    ensures { result ≡ x }
-{
-    x as u64
-}
-
-// With number 0 an XV for each of x, else only NO number, column.
-pub fn write_answer(number: u32, column: u32, x: &[f64], out: &mut [u8]) -> Wrote
+// With number 0 an XV for each of x, else only NO number, column: they are that record's own fields, so numbers. Answers how many
+// bytes were written.
+pub fn write_answer(number: u32, column: u32, x: &[f64], out: &mut [u8]) -> Result<usize, Refusal>
     ensures { let w = text (lines number column x.now) in
         (result ≡ answer w out.old) × (out.new ≡ leaves w out.old) }
 {
     if number != 0 {
         if out.len() < 7 {
-            return Wrote {
-                number: 7,
-                written: 0,
-            };
+            return Err(Refusal::NoRoom);
         }
-        let end = put_refusal(out, wide(number), wide(column));
-        return Wrote {
-            number: 0,
-            written: end,
-        };
+        return Ok(put_refusal(out, u64::from(number), u64::from(column)));
     }
     if out.len() / 14 < x.len() {
-        return Wrote {
-            number: 7,
-            written: 0,
-        };
+        return Err(Refusal::NoRoom);
     }
-    let end = put_rows(out, x);
-    Wrote {
-        number: 0,
-        written: end,
-    }
+    Ok(put_rows(out, x))
 }

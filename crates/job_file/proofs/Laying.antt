@@ -10,17 +10,26 @@ use Rattle.lists.specs.Calls.{none, cleared}
 use Rattle.lists.proofs.Clearing.{length-cleared}
 use Rattle.lists.proofs.Fronts.{take_more, drop_more, cleared-is}
 use Rattle.job_file.specs.declared.record.Found.{Found}
-use Rattle.job_file.specs.declared.record.Found.TheVariants.{Size, Entry, Right, Go, Wrong}
+use Rattle.job_file.specs.declared.record.Found.TheVariants.{Size, Entry, Right, Go}
 use Rattle.job_file.specs.declared.read.Head.{Head}
+use Rattle.job_file.specs.declared.read.Engine.{Engine}
+use Rattle.job_file.specs.declared.read.Stage.{Stage}
+use Rattle.job_file.specs.declared.read.Stage.TheVariants.{Start, Sized, Ended}
 use Rattle.job_file.specs.Faults.{Job, fault}
 use Rattle.job_file.specs.Reading.{place, entries, with_entry, taken}
 use Rattle.job_file.specs.Arrays.{Arrays, arrays}
-use Rattle.job_file.specs.Told.{told}
+use Rattle.job_file.specs.Told.{place_of, engine_of, told}
 use Rattle.job_file.specs.Keeping.{held_by, Fits, Kept}
-use Rattle.job_file.proofs.Meaning.{sz_means, en_means, rh_means, wrong_means}
+use Rattle.job_file.proofs.Meaning.{sz_means, en_means, rh_means}
 
-abbrev pub head : ℕ → ℕ → ℕ → ℕ → ℕ → ℕ → Head
-head stage n count entries next engine = record { stage = stage; n = n; count = count; entries = entries; next = next; engine = engine }
+abbrev pub head : Stage → ℕ → ℕ → ℕ → ℕ → Head
+head stage n count entries next = record { stage = stage; n = n; count = count; entries = entries; next = next }
+
+-- before SZ no engine is named
+unnamed : (s : Stage) → place_of s ≡ 0 → 0 ≡ engine_of s
+unnamed Start e = refl
+unnamed Sized e = refl
+unnamed (Ended engine) e = absurd (omega arith)
 
 module _ (h : Head) (l : Arrays) (v : Fits h l) (r : Found) (z : fault (held_by h l) (told r) ≡ 0) where
   held : h.entries ≤ length l.rows
@@ -34,26 +43,26 @@ module _ (h : Head) (l : Arrays) (v : Fits h l) (r : Found) (z : fault (held_by 
   none_of e = sym (ap (λ (y : Found). fault (held_by h l) (told y)) e) ∙ z
 
   pub kept-size : {n count w : ℕ} {right : List Float} → r ≡ Size n count → w ≡ n → right ≡ cleared none w l.right
-      → Kept h l (told r) (head 1 n count h.entries h.next h.engine) (arrays l.rows l.columns l.values right)
+      → Kept h l (told r) (head Sized n count h.entries h.next) (arrays l.rows l.columns l.values right)
   unfolding taken
   kept-size {n = n} {count = count} {w = w} {right = right} e f g =
       let m = sz_means (held_by h l) n count (none_of e) in
       let fresh = v.fresh m.0 in
       let g1 : right ≡ cleared none n l.right = rw f at g in
       let g2 : right ≡ replicate n none ++ drop n l.right = g1 ∙ cleared-is none n l.right (omega (arith, m.1, v.room.right)) in
+      let t = ap (take n) g2 ∙ take_at (replicate n none) (drop n l.right) n (length-replicate n none) in
+      let u = unnamed h.stage m.0 in
       let long : length right ≡ length l.right = ap length g1 ∙ length-cleared none n l.right in
       record {
         is =
-            ap (λ (t : List Float).
-            record {
+            (λ k. record {
               place = place 1 h.next;
               n = n;
               count = count;
               entries = entries (take h.entries l.rows) (take h.entries l.columns) (take h.entries l.values);
-              right = t;
-              engine = h.engine;
+              right = t k;
+              engine = u k;
             })
-            (ap (take n) g2 ∙ take_at (replicate n none) (drop n l.right) n (length-replicate n none))
             ∙ sym (ap taking e);
         fits =
             record {
@@ -83,7 +92,7 @@ module _ (h : Head) (l : Arrays) (v : Fits h l) (r : Found) (z : fault (held_by 
       (omega (arith, v.count, v.room.rows), omega (arith, v.count, v.room.columns), omega (arith, v.count, v.room.values), omega (arith, v.count))
 
   entry_kept : {row column bits : ℕ} → r ≡ Entry row column bits
-      → Kept h l (told r) (head h.stage h.n h.count (h.entries + 1) h.next h.engine)
+      → Kept h l (told r) (head h.stage h.n h.count (h.entries + 1) h.next)
       (arrays (set l.rows h.entries row) (set l.columns h.entries column) (set l.values h.entries (of_bits binary64 bits)) l.right)
   unfolding taken with_entry
   entry_kept {row = row} {column = column} {bits = bits} e =
@@ -97,12 +106,12 @@ module _ (h : Head) (l : Arrays) (v : Fits h l) (r : Found) (z : fault (held_by 
       record {
         is =
             (λ k. record {
-              place = place h.stage h.next;
+              place = place (place_of h.stage) h.next;
               n = h.n;
               count = h.count;
               entries = entries (er k) (ec k) (ev k);
               right = take h.n l.right;
-              engine = h.engine;
+              engine = engine_of h.stage;
             })
             ∙ sym (ap taking e);
         fits =
@@ -129,7 +138,7 @@ module _ (h : Head) (l : Arrays) (v : Fits h l) (r : Found) (z : fault (held_by 
       }
 
   pub kept_entry : {row column bits w : ℕ} {x : Float} → r ≡ Entry row column bits → w ≡ h.entries → x ≡ of_bits binary64 bits
-      → Kept h l (told r) (head h.stage h.n h.count (h.entries + 1) h.next h.engine)
+      → Kept h l (told r) (head h.stage h.n h.count (h.entries + 1) h.next)
       (arrays (set l.rows w row) (set l.columns w column) (set l.values w x) l.right)
   kept_entry e f g = rw (f, g) (entry_kept e)
 
@@ -139,7 +148,7 @@ module _ (h : Head) (l : Arrays) (v : Fits h l) (r : Found) (z : fault (held_by 
       (omega (arith, m.1, v.n, v.room.right), omega (arith, m.1, v.n))
 
   right_kept : {row bits : ℕ} → r ≡ Right row bits
-      → Kept h l (told r) (head h.stage h.n h.count h.entries (row + 1) h.engine)
+      → Kept h l (told r) (head h.stage h.n h.count h.entries (row + 1))
       (arrays l.rows l.columns l.values (set l.right row (of_bits binary64 bits)))
   unfolding taken
   right_kept {row = row} {bits = bits} e =
@@ -149,12 +158,12 @@ module _ (h : Head) (l : Arrays) (v : Fits h l) (r : Found) (z : fault (held_by 
         is =
             ap (λ (t : List Float).
             record {
-              place = place h.stage (row + 1);
+              place = place (place_of h.stage) (row + 1);
               n = h.n;
               count = h.count;
               entries = entries (take h.entries l.rows) (take h.entries l.columns) (take h.entries l.values);
               right = t;
-              engine = h.engine;
+              engine = engine_of h.stage;
             })
             (take-set-lt h.n l.right row b m.1)
             ∙ sym (ap taking e);
@@ -177,10 +186,10 @@ module _ (h : Head) (l : Arrays) (v : Fits h l) (r : Found) (z : fault (held_by 
       }
 
   pub kept-right : {row bits w : ℕ} {x : Float} → r ≡ Right row bits → w ≡ row → x ≡ of_bits binary64 bits
-      → Kept h l (told r) (head h.stage h.n h.count h.entries (row + 1) h.engine) (arrays l.rows l.columns l.values (set l.right w x))
+      → Kept h l (told r) (head h.stage h.n h.count h.entries (row + 1)) (arrays l.rows l.columns l.values (set l.right w x))
   kept-right e f g = rw (f, g) (right_kept e)
 
-  pub kept_go : {engine : ℕ} → r ≡ Go engine → Kept h l (told r) (head 2 h.n h.count h.entries h.next engine) l
+  pub kept_go : {engine : Engine} → r ≡ Go engine → Kept h l (told r) (head (Ended engine) h.n h.count h.entries h.next) l
   unfolding taken
   kept_go e =
       record {
@@ -190,6 +199,3 @@ module _ (h : Head) (l : Arrays) (v : Fits h l) (r : Found) (z : fault (held_by 
         more = omega arith;
         wider = omega arith;
       }
-
-  pub kept_wrong : r ≡ Wrong → Kept h l (told r) h l
-  kept_wrong e = let t = wrong_means (held_by h l) in let y = none_of e in absurd (omega (arith, t, y))

@@ -1,5 +1,4 @@
 pub mod Telling
-pub mod Seeking
 pub mod Meaning
 pub mod Judging
 pub mod Laying

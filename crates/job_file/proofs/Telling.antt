@@ -1,5 +1,6 @@
 -- The record at a place, by its mark and by how much is left. Assumes nothing.
-use mathlib.Core.Path.{◌≡◌, sym, ◌∙◌}
+use mathlib.Core.Path.{◌≡◌, sym, ap, ◌∙◌}
+use mathlib.Core.Logic.{⊎_elim}
 use mathlib.Core.Bool.{true, false}
 use mathlib.Core.List.{List}
 use Prim.Native.Nat.{ℕ, ◌+◌, ◌-◌, ◌≤◌, ◌<◌}
@@ -8,28 +9,34 @@ use lib.Dec.{eqb}
 use lib.ListN.{length, drop, length-drop}
 use lib.Seq.{drop-drop}
 use borrow.Author.Tests.{le-leb, lt-leb, eq-eqb, ne_eqb}
-use Rattle.lists.proofs.Bools.{and-false}
+use Rattle.lists.proofs.Bools.{and-false, eq-or-ne}
 use Rattle.little.specs.Little.{little}
-use Rattle.job_file.specs.Records.{SZ, EN, RH, GO, Wrong, first, begins}
+use Rattle.job_file.specs.Records.{SZ, EN, RH, GO, first, begins}
+use Rattle.job_file.specs.Faults.{malformed}
 
 -- where a record with this mark begins, and where none does: another mark, or too few bytes
 does : (mark long : ℕ) (s : List ℕ) → little 2 s ≡ mark → long ≤ length s → begins mark long s ≡ true
 unfolding begins
 does mark long s e h = simp (eq-eqb (little 2 s) mark e, le-leb long (length s) h)
 
-other : (mark long : ℕ) (s : List ℕ) → (little 2 s ≡ mark → ⊥) → begins mark long s ≡ false
+does_not : (mark long : ℕ) (s : List ℕ) → (little 2 s ≡ mark → length s < long) → begins mark long s ≡ false
 unfolding begins
-other mark long s n = simp (ne_eqb (little 2 s) mark n)
-
-short : (mark long : ℕ) (s : List ℕ) → length s < long → begins mark long s ≡ false
-unfolding begins
-short mark long s h = rw (lt-leb long (length s) h) (and-false (eqb (little 2 s) mark))
+does_not mark long s n =
+    ⊎_elim
+    (λ (e : little 2 s ≡ mark). rw (lt-leb long (length s) (n e)) (and-false (eqb (little 2 s) mark)))
+    (λ (f : little 2 s ≡ mark → ⊥). simp (ne_eqb (little 2 s) mark f))
+    (eq-or-ne (little 2 s) mark)
 
 -- no record
 wrong : (l : List ℕ) → begins 0x5A53 10 l ≡ false → begins 0x4E45 18 l ≡ false → begins 0x4852 14 l ≡ false → begins 0x4F47 3 l ≡ false →
-    Wrong ≡ first l
-unfolding first
+    malformed (first l) ≡ true
+unfolding first malformed
 wrong l a b c d = simp (a, b, c, d)
+
+-- a byte behind GO that names no engine
+pub no_engine : (byte : ℕ) → (byte ≡ 1 → ⊥) → (byte ≡ 2 → ⊥) → malformed (GO byte) ≡ true
+unfolding malformed
+no_engine byte a b = simp (ne_eqb byte 1 a, ne_eqb byte 2 b)
 
 -- a place at of s, where x is the mark read
 module _ (s : List ℕ) (at : ℕ) where
@@ -42,29 +49,16 @@ module _ (s : List ℕ) (at : ℕ) where
   behind : (k : ℕ) → drop (at + k) s ≡ drop k here
   behind k = sym (drop-drop k at s)
 
-  pub wrong_end : length s - at < 3 → Wrong ≡ first here
-  wrong_end h = wrong here (short _ _ here (omega (arith, long))) (short _ _ here (omega (arith, long))) (short _ _ here (omega (arith, long)))
-      (short _ _ here (omega (arith, long)))
-
   module _ {x : ℕ} (m : x ≡ little 2 here) where
-    pub wrong_mark : (x ≡ 0x5A53 → ⊥) → (x ≡ 0x4E45 → ⊥) → (x ≡ 0x4852 → ⊥) → (x ≡ 0x4F47 → ⊥) → Wrong ≡ first here
-    wrong_mark a b c d = wrong here (other _ _ here (λ f. a (m ∙ f))) (other _ _ here (λ f. b (m ∙ f))) (other _ _ here (λ f. c (m ∙ f)))
-        (other _ _ here (λ f. d (m ∙ f)))
+    none : (mark k : ℕ) → (x ≡ mark → length s - at < k) → begins mark k here ≡ false
+    none mark k n = does_not mark k here (λ e. let f = n (m ∙ e) in omega (arith, long, f))
+
+    pub is_wrong : (x ≡ 0x5A53 → length s - at < 10) → (x ≡ 0x4E45 → length s - at < 18) → (x ≡ 0x4852 → length s - at < 14) →
+        (x ≡ 0x4F47 → length s - at < 3) → malformed (first here) ≡ true
+    is_wrong a b c d = wrong here (none _ _ a) (none _ _ b) (none _ _ c) (none _ _ d)
 
     not_this : (k q long : ℕ) → x ≡ k → (k ≡ q → ⊥) → begins q long here ≡ false
-    not_this k q long e n = other q long here (λ f. n (sym e ∙ m ∙ f))
-
-    pub wrong_SZ : x ≡ 0x5A53 → length s - at < 10 → Wrong ≡ first here
-    wrong_SZ e h = wrong here (short _ _ here (omega (arith, long))) (not_this 0x5A53 0x4E45 18 e (λ f. omega arith))
-        (not_this 0x5A53 0x4852 14 e (λ f. omega arith)) (not_this 0x5A53 0x4F47 3 e (λ f. omega arith))
-
-    pub wrong_EN : x ≡ 0x4E45 → length s - at < 18 → Wrong ≡ first here
-    wrong_EN e h = wrong here (not_this 0x4E45 0x5A53 10 e (λ f. omega arith)) (short _ _ here (omega (arith, long)))
-        (not_this 0x4E45 0x4852 14 e (λ f. omega arith)) (not_this 0x4E45 0x4F47 3 e (λ f. omega arith))
-
-    pub wrong_RH : x ≡ 0x4852 → length s - at < 14 → Wrong ≡ first here
-    wrong_RH e h = wrong here (not_this 0x4852 0x5A53 10 e (λ f. omega arith)) (not_this 0x4852 0x4E45 18 e (λ f. omega arith))
-        (short _ _ here (omega (arith, long))) (not_this 0x4852 0x4F47 3 e (λ f. omega arith))
+    not_this k q long e n = does_not q long here (λ f. absurd (n (sym e ∙ m ∙ f)))
 
     pub is-SZ : x ≡ 0x5A53 → 10 ≤ length s - at → {n count : ℕ} → n ≡ little 4 (drop (at + 2) s) → count ≡ little 4 (drop (at + 6) s) →
         SZ n count ≡ first here
@@ -108,3 +102,8 @@ module _ (s : List ℕ) (at : ℕ) where
       a,
       behind 2,
     )
+
+    -- and GO names no engine
+    pub is_no_GO : x ≡ 0x4F47 → 3 ≤ length s - at → {engine : ℕ} → engine ≡ little 1 (drop (at + 2) s) → malformed (GO engine) ≡ true
+        → malformed (first here) ≡ true
+    is_no_GO e h a w = sym (ap malformed (is-GO e h a)) ∙ w

@@ -5,16 +5,17 @@ use Rattle.job_file.specs.Records.{Record}
 use Rattle.job_file.specs.Faults.{Job, fault}
 use Rattle.job_file.specs.Reading.{place, entries, taken}
 use Rattle.job_file.specs.Arrays.{Arrays}
+use Rattle.job_file.specs.Told.{place_of, engine_of}
 
 abbrev pub held_by : Head → Arrays → Job
 held_by h l =
     record {
-      place = place h.stage h.next;
+      place = place (place_of h.stage) h.next;
       n = h.n;
       count = h.count;
       entries = entries (take h.entries l.rows) (take h.entries l.columns) (take h.entries l.values);
       right = take h.n l.right;
-      engine = h.engine;
+      engine = engine_of h.stage;
     }
 
 -- room for the maxima
@@ -30,7 +31,7 @@ pub record Fits (h : Head) (l : Arrays) : Type 0 where
   pub n : h.n ≤ 256
   pub count : h.count ≤ 2048
   pub entries : h.entries ≤ h.count
-  pub fresh : h.stage ≡ 0 → (h.n ≡ 0) × (h.entries ≡ 0)
+  pub fresh : place_of h.stage ≡ 0 → (h.n ≡ 0) × (h.entries ≡ 0)
 
 -- behind the job, new is as old
 pub record Behind (h : Head) (old new : Arrays) : Type 0 where

@@ -1,114 +1,89 @@
-// The number of a record where it stands, one record kind a function.
-ghost use Rattle.std.specs.Prelude.{◌≡◌, [], ℕ, ◌≤◌, length, take};
+// What refuses a record where it stands, one record kind a function.
+ghost use Rattle.std.specs.Prelude.{◌≡◌, ◌==◌, ◌&&◌, [], ℕ, ◌≤◌, length};
+ghost use Rattle.std.specs.List.{list_any, zip};
 ghost use Rattle.job_file.specs.Records.{SZ, EN, RH, GO};
-ghost use Rattle.job_file.specs.Faults.{given, fault as faultOf};
+ghost use Rattle.lists.specs.Refusals.{numbered};
+ghost use Rattle.job_file.specs.Faults.{fault as faultOf};
 ghost use Rattle.job_file.specs.Arrays.{arrays};
-ghost use Rattle.job_file.specs.Told.{told};
+ghost use Rattle.job_file.specs.Told.{byte, told};
 ghost use Rattle.job_file.specs.Keeping.{held_by, Judged};
 
-use crate::read::Head;
+use crate::read::{Engine, Head, Stage};
 use crate::record::Found;
 use lists::numbers::wide;
+use lists::refusal::Refusal;
 
-fn size_fault(h: Head, n: u32, count: u32) -> u32
-    ensures { Judged h (SZ n count) result }
+fn size_fault(h: Head, n: u32, count: u32) -> Result<(), Refusal>
+    ensures { Judged h (SZ n count) (numbered result) }
 {
-    if h.stage != 0 {
-        return 12;
+    if h.stage != Stage::Start {
+        return Err(Refusal::Malformed);
     }
-    if n > 256 {
-        return 1;
+    if n > 256 || count > 2048 {
+        return Err(Refusal::TooLarge);
     }
-    if count > 2048 {
-        return 1;
-    }
-    0
+    Ok(())
 }
 
-// One of the first e places is (row, column).
-fn is_given(row: u32, column: u32, e: usize, rows: &[u32], columns: &[u32]) -> bool
-    requires { (e ≤ length rows.now) × (e ≤ length columns.now) }
-    ensures { result ≡ given row column (take e rows.now) (take e columns.now) }
+// One of the places is (row, column).
+fn is_given(row: u32, column: u32, rows: &[u32], columns: &[u32]) -> bool
+    ensures { result ≡ list_any (λ p. (p.0 == row) && (p.1 == column)) (zip rows.now columns.now) }
 {
-    let mut k = 0;
-    while k < e {
-        if rows[k] == row && columns[k] == column {
-            return true;
-        }
-        k += 1;
-    }
-    false
+    rows.iter()
+        .zip(columns)
+        .any(|(&x, &y)| x == row && y == column)
 }
 
-fn entry_fault(h: Head, row: u32, column: u32, rows: &[u32], columns: &[u32]) -> u32
+fn entry_fault(h: Head, row: u32, column: u32, rows: &[u32], columns: &[u32]) -> Result<(), Refusal>
     requires { (h.entries ≤ length rows.now) × (h.entries ≤ length columns.now) }
-    ensures { (bits : ℕ) → result ≡ faultOf (held_by h (arrays rows.now columns.now [] [])) (EN row column bits) }
+    ensures { (bits : ℕ) → numbered result ≡ faultOf (held_by h (arrays rows.now columns.now [] [])) (EN row column bits) }
 {
-    if h.stage != 1 {
-        return 12;
+    if h.stage != Stage::Sized || h.entries == h.count {
+        return Err(Refusal::Malformed);
     }
-    if h.entries == h.count {
-        return 12;
+    if row >= h.n || column >= h.n {
+        return Err(Refusal::OutOfRange);
     }
-    if row >= h.n {
-        return 4;
+    let given = wide(h.entries);
+    if is_given(row, column, &rows[..given], &columns[..given]) {
+        return Err(Refusal::Misplaced);
     }
-    if column >= h.n {
-        return 4;
-    }
-    if is_given(row, column, wide(h.entries), rows, columns) {
-        return 9;
-    }
-    0
+    Ok(())
 }
 
-fn right_fault(h: Head, row: u32) -> u32
-    ensures { (bits : ℕ) → Judged h (RH row bits) result }
+fn right_fault(h: Head, row: u32) -> Result<(), Refusal>
+    ensures { (bits : ℕ) → Judged h (RH row bits) (numbered result) }
 {
-    if h.stage != 1 {
-        return 12;
-    }
-    if h.entries != h.count {
-        return 12;
+    if h.stage != Stage::Sized || h.entries != h.count {
+        return Err(Refusal::Malformed);
     }
     if row >= h.n {
-        return 4;
+        return Err(Refusal::OutOfRange);
     }
     if row < h.next {
-        return 5;
+        return Err(Refusal::NotRising);
     }
-    0
+    Ok(())
 }
 
-fn go_fault(h: Head, engine: u32) -> u32
-    ensures { Judged h (GO engine) result }
+fn go_fault(h: Head, engine: Engine) -> Result<(), Refusal>
+    ensures { Judged h (GO (byte engine)) (numbered result) }
 {
-    if h.stage != 1 {
-        return 12;
+    if h.stage != Stage::Sized || h.entries != h.count {
+        return Err(Refusal::Malformed);
     }
-    if h.entries != h.count {
-        return 12;
-    }
-    match engine {
-        1 | 2 => 0,
-        _ => 12,
-    }
+    Ok(())
 }
 
-// The number of a record where it stands, 0 for none.
-pub(crate) fn fault(r: Found, h: Head, rows: &[u32], columns: &[u32]) -> u32
+// What refuses a record where it stands, or nothing.
+pub(crate) fn fault(r: Found, h: Head, rows: &[u32], columns: &[u32]) -> Result<(), Refusal>
     requires { (h.entries ≤ length rows.now) × (h.entries ≤ length columns.now) }
-    ensures { result ≡ faultOf (held_by h (arrays rows.now columns.now [] [])) (told r) }
+    ensures { numbered result ≡ faultOf (held_by h (arrays rows.now columns.now [] [])) (told r) }
 {
     match r {
         Found::Size { n, count } => size_fault(h, n, count),
-        Found::Entry {
-            row,
-            column,
-            bits: _,
-        } => entry_fault(h, row, column, rows, columns),
-        Found::Right { row, bits: _ } => right_fault(h, row),
+        Found::Entry { row, column, .. } => entry_fault(h, row, column, rows, columns),
+        Found::Right { row, .. } => right_fault(h, row),
         Found::Go { engine } => go_fault(h, engine),
-        Found::Wrong => 12,
     }
 }

@@ -5,9 +5,10 @@ ghost use Rattle.job_file.specs.Faults.{fault};
 ghost use Rattle.job_file.specs.Arrays.{arrays};
 ghost use Rattle.job_file.specs.Keeping.{held_by, Fits, Kept};
 
-use crate::read::Head;
+use crate::read::{Head, Stage};
 use crate::record::Found;
-use lists::clear::clear_values;
+use float_bits::of_bits;
+use lists::clear::fill;
 use lists::numbers::wide;
 
 pub(crate) fn keep(
@@ -23,34 +24,34 @@ pub(crate) fn keep(
         let new = arrays rows.new columns.new values.new right.new in
         Kept h old (told r) result new }
 {
-    let mut g = h;
     match r {
         Found::Size { n, count } => {
-            clear_values(wide(n), right);
-            g.stage = 1;
-            g.n = n;
-            g.count = count;
-            g
+            fill(0.0, wide(n), right);
+            Head {
+                stage: Stage::Sized,
+                n,
+                count,
+                ..h
+            }
         }
         Found::Entry { row, column, bits } => {
             let e = wide(h.entries);
             rows[e] = row;
             columns[e] = column;
-            values[e] = float_bits::of_bits(bits);
-            g.entries = h.entries + 1;
-            g
+            values[e] = of_bits(bits);
+            Head {
+                entries: h.entries + 1,
+                ..h
+            }
         }
         Found::Right { row, bits } => {
             let i = wide(row);
-            right[i] = float_bits::of_bits(bits);
-            g.next = row + 1;
-            g
+            right[i] = of_bits(bits);
+            Head { next: row + 1, ..h }
         }
-        Found::Go { engine } => {
-            g.stage = 2;
-            g.engine = engine;
-            g
-        }
-        Found::Wrong => g,
+        Found::Go { engine } => Head {
+            stage: Stage::Ended(engine),
+            ..h
+        },
     }
 }

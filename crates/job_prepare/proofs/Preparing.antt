@@ -16,11 +16,10 @@ use Rattle.lists.proofs.Parts.{get_or-onto-front}
 use Rattle.lists.proofs.Places.{take-onto}
 use Rattle.cs_matrix.specs.Matrix.{Pattern, pattern, Matrix, matrix, Stored, stored, written, short, needed, judged_square}
 use Rattle.cs_tree.specs.Pattern.{Analysis, analysed}
-use Rattle.cs_conversion.specs.Assembly.{Triplets, triplets, judged_triplets, needed_triplets, twice, assembled, Assembled, number as assemblyNumber}
+use Rattle.cs_conversion.specs.Assembly.{Triplets, judged_triplets, needed_triplets, twice, assembled, Assembled, number as assemblyNumber}
 use Rattle.cs_pattern.specs.Analyse.{number as analysisNumber, written as writtenAnalysis, short as shortAnalysis}
 use Rattle.cs_pattern.specs.Columns.{columns}
 use Rattle.job_prepare.specs.Prepare.{scratch_room, matrix_room, analysis_room, assembly, analysis_of, pattern_of, number, Outputs, leaves}
-use Rattle.job_prepare.specs.Prepare.{held_pattern}
 
 -- ---- only the lengths of what is lent matter to the numbers
 module _ (a b : Stored) (ep : length a.p ≡ length b.p) (ei : length a.i ≡ length b.i) (ev : length a.v ≡ length b.v) where
@@ -60,28 +59,19 @@ assembled_there t p i v ep ei ev e = (
   e.2,
 )
 
--- the pattern that is handed on
-handed : (n : ℕ) (p i : List ℕ) (k m : ℕ) → k ≡ n + 1 → m ≡ get_or p n 0 → pattern n n (take k p) (take m i) ≡ held_pattern n p i
-unfolding held_pattern
-handed n p i k m e f = rw (e, f)
-
-pub analysed_there : (n : ℕ) (p i : List ℕ) (m : ℕ) (f : Analysis) {new : Analysis} {w : Scratch} {r : ℕ} → m ≡ get_or p n 0
+pub analysed_there : (q : Pattern) (f : Analysis) {new : Analysis} {w : Scratch} {r : ℕ}
     → length f.tree ≡ 256 → length f.up ≡ 257 → length f.ui ≡ 2048 → length f.lp ≡ 257 → length f.li ≡ 2048
-    → r ≡ analysisNumber (pattern n n (take (n + 1) p) (take m i)) (lent f scratch_room)
-    → lent new w
-    ≡ left r (needed (pattern n n (take (n + 1) p) (take m i))) (writtenAnalysis (analysed (columns (pattern n n (take (n + 1) p) (take m i)))) f)
-    (lent f scratch_room)
-    → (r ≡ analysis_of (held_pattern n p i)) × (new ≡ outputs r (writtenAnalysis (analysed (columns (held_pattern n p i))) f) f)
+    → r ≡ analysisNumber q (lent f scratch_room)
+    → lent new w ≡ left r (needed q) (writtenAnalysis (analysed (columns q)) f) (lent f scratch_room)
+    → (r ≡ analysis_of q) × (new ≡ outputs r (writtenAnalysis (analysed (columns q)) f) f)
 unfolding analysis_of left
-analysed_there n p i m f {new = new} {r = r} em et eu ei el ej e g =
-    let q = handed n p i (n + 1) m refl em in (
-      e
-          ∙ ap (λ (x : Pattern). analysisNumber x (lent f scratch_room)) q
-          ∙ analysis-same f analysis_room.out (et ∙ sym (length-replicate {A = ℕ} 256 0)) (eu ∙ sym (length-replicate {A = ℕ} 257 0)) (ei ∙
-          sym (length-replicate {A = ℕ} 2048 0)) (el ∙ sym (length-replicate {A = ℕ} 257 0))
-          (ej ∙ sym (length-replicate {A = ℕ} 2048 0)) (held_pattern n p i) scratch_room,
-      ap (λ (l : Lent Analysis). l.out) g ∙ ap (λ (x : Pattern). outputs r (writtenAnalysis (analysed (columns x)) f) f) q,
-    )
+analysed_there q f et eu ei el ej e g = (
+  e
+      ∙ analysis-same f analysis_room.out (et ∙ sym (length-replicate {A = ℕ} 256 0)) (eu ∙ sym (length-replicate {A = ℕ} 257 0)) (ei ∙
+      sym (length-replicate {A = ℕ} 2048 0)) (el ∙ sym (length-replicate {A = ℕ} 257 0))
+      (ej ∙ sym (length-replicate {A = ℕ} 2048 0)) q scratch_room,
+  ap (λ (l : Lent Analysis). l.out) g,
+)
 
 -- ---- the two together
 
@@ -91,10 +81,13 @@ unfolding onto
 fits d g l e = omega (arith, ap length e ∙ length-append g (drop (length g) d))
 
 -- the matrix that was written, in front of the arrays
-module _ (n : ℕ) (rows cols : List ℕ) (vals : List Float) (p i : List ℕ) (v : List Float) (p1 i1 : List ℕ) (v1 : List Float)
-    (w : stored p1 i1 v1 ≡ written (assembled (triplets n n rows cols vals)) (stored p i v)) (s : Assembled (triplets n n rows cols vals)) where
+module _ (t : Triplets) (p i : List ℕ) (v : List Float) (p1 i1 : List ℕ) (v1 : List Float)
+    (w : stored p1 i1 v1 ≡ written (assembled t) (stored p i v)) (s : Assembled t) where
   abbrev a : Matrix
-  a = assembled (triplets n n rows cols vals)
+  a = assembled t
+
+  abbrev n : ℕ
+  n = t.ncols
 
   p_is : p1 ≡ onto p a.pattern.p
   unfolding written
@@ -122,7 +115,7 @@ module _ (n : ℕ) (rows cols : List ℕ) (vals : List Float) (p i : List ℕ) (
       let q1 : get_or a.pattern.p n 0 ≡ length a.pattern.i = rw m at q in
       ap (λ (x : List ℕ). get_or x n 0) p_is ∙ get_or-onto-front p a.pattern.p 0 n (omega (arith, pointers)) ∙ q1
 
-  pub written_asks : (n < length p1) × (get_or p1 n 0 ≤ length i1) × (get_or p1 n 0 ≤ length v1)
+  pub written_asks : (t.ncols < length p1) × (get_or p1 t.ncols 0 ≤ length i1) × (get_or p1 t.ncols 0 ≤ length v1)
   written_asks = (
     omega (arith, fits p a.pattern.p p1 p_is, pointers),
     omega (arith, fits i a.pattern.i i1 i_is, last),
@@ -138,44 +131,40 @@ module _ (n : ℕ) (rows cols : List ℕ) (vals : List Float) (p i : List ℕ) (
   v_front : take (get_or p1 n 0) v1 ≡ a.v
   v_front = ap (take (get_or p1 n 0)) v_is ∙ take-onto (get_or p1 n 0) v a.v (sym (last ∙ s.valid.v_long))
 
-  square : pattern n n a.pattern.p a.pattern.i ≡ a.pattern
+  pattern-is : pattern t.nrows n a.pattern.p a.pattern.i ≡ a.pattern
   unfolding assembled
-  square = refl
+  pattern-is = refl
 
-  pub written-pattern : held_pattern n p1 i1 ≡ a.pattern
-  unfolding held_pattern
-  written-pattern = (λ k. pattern n n (p_front k) (i_front k)) ∙ square
+  pub written-pattern : {m : ℕ} → m ≡ get_or p1 t.ncols 0 → pattern t.nrows t.ncols (take (t.ncols + 1) p1) (take m i1) ≡ (assembled t).pattern
+  written-pattern e = rw e ((λ k. pattern t.nrows n (p_front k) (i_front k)) ∙ pattern-is)
 
-  square-matrix : matrix n n a.pattern.p a.pattern.i a.v ≡ a
+  matrix-is : matrix t.nrows n a.pattern.p a.pattern.i a.v ≡ a
   unfolding assembled
-  square-matrix = refl
+  matrix-is = refl
 
-  pub written-matrix : matrix n n (take (n + 1) p1) (take (get_or p1 n 0) i1) (take (get_or p1 n 0) v1) ≡ a
-  written-matrix = (λ k. matrix n n (p_front k) (i_front k) (v_front k)) ∙ square-matrix
+  pub written-matrix : {m : ℕ} → m ≡ get_or p1 t.ncols 0
+      → matrix t.nrows t.ncols (take (t.ncols + 1) p1) (take m i1) (take m v1) ≡ assembled t
+  written-matrix e = rw e ((λ k. matrix t.nrows n (p_front k) (i_front k) (v_front k)) ∙ matrix-is)
 
 -- assembly done
-module _ (n : ℕ) (rows cols : List ℕ) (vals : List Float) (p i : List ℕ) (v : List Float) (p1 i1 : List ℕ) (v1 : List Float) (r : ℕ) (z : r ≡ 0)
-    (c : (r ≡ assembly (triplets n n rows cols vals))
-    × (stored p1 i1 v1 ≡ outputs r (written (assembled (triplets n n rows cols vals)) (stored p i v)) (stored p i v))
-    × (r ≡ 0 → Assembled (triplets n n rows cols vals))) where
-  abbrev t : Triplets
-  t = triplets n n rows cols vals
-
+module _ (t : Triplets) (p i : List ℕ) (v : List Float) (p1 i1 : List ℕ) (v1 : List Float) (r : ℕ) (z : r ≡ 0)
+    (c : (r ≡ assembly t) × (stored p1 i1 v1 ≡ outputs r (written (assembled t) (stored p i v)) (stored p i v)) × (r ≡ 0 → Assembled t)) where
   is-written : stored p1 i1 v1 ≡ written (assembled t) (stored p i v)
   is-written = c.1 ∙ left-done r (written (assembled t) (stored p i v)) (stored p i v) z
 
-  pub prepared_asks : (n < length p1) × (get_or p1 n 0 ≤ length i1)
-  prepared_asks = let q = written_asks n rows cols vals p i v p1 i1 v1 is-written (c.2 z) in (q.0, q.1)
+  pub prepared_asks : (t.ncols < length p1) × (get_or p1 t.ncols 0 ≤ length i1)
+  prepared_asks = let q = written_asks t p i v p1 i1 v1 is-written (c.2 z) in (q.0, q.1)
 
-  pub prepared_analysed : (f g : Analysis) (q : ℕ)
-      → (q ≡ analysis_of (held_pattern n p1 i1)) × (g ≡ outputs q (writtenAnalysis (analysed (columns (held_pattern n p1 i1))) f) f)
+  pub prepared_analysed : (f g : Analysis) (q m : ℕ) → m ≡ get_or p1 t.ncols 0
+      → (q ≡ analysis_of (pattern t.nrows t.ncols (take (t.ncols + 1) p1) (take m i1)))
+      × (g ≡ outputs q (writtenAnalysis (analysed (columns (pattern t.nrows t.ncols (take (t.ncols + 1) p1) (take m i1)))) f) f)
       → (q ≡ number t)
       × (◌≡◌ {A = Outputs} (record { matrix = stored p1 i1 v1; analysis = g }) (leaves t (record { matrix = stored p i v; analysis = f })))
       × (q ≡ 0 → Assembled t)
   unfolding number leaves pattern_of
-  prepared_analysed f g q d =
+  prepared_analysed f g q k e d =
       let m = assembled t in
-      let h = written-pattern n rows cols vals p i v p1 i1 v1 is-written (c.2 z) in
+      let h = written-pattern t p i v p1 i1 v1 is-written (c.2 z) e in
       let eq : q ≡ analysis_of m.pattern = d.0 ∙ ap analysis_of h in
       let eg : g ≡ outputs (analysis_of m.pattern) (writtenAnalysis (analysed (columns m.pattern)) f) f =
       d.1 ∙ ap (λ (x : Pattern). outputs q (writtenAnalysis (analysed (columns x)) f) f) h ∙

@@ -1,8 +1,8 @@
 -- What the program works out before any number is: document 01, "assembles, analyses", with its maxima as the room that it lends:
 -- 257 pointers, 2,048 entries of the matrix and 2,048 of U. Assumes nothing.
-use Rattle.std.specs.Prelude.{cond, List, ℕ, ◌+◌, eqb, get_or, replicate, take}
+use Rattle.std.specs.Prelude.{cond, ℕ, eqb, replicate}
 use Rattle.lists.specs.Calls.{none, Scratch, scratch, Lent, lent, outputs}
-use Rattle.cs_matrix.specs.Matrix.{Pattern, pattern, Stored, stored, written}
+use Rattle.cs_matrix.specs.Matrix.{Pattern, Stored, stored, written}
 use Rattle.cs_tree.specs.Pattern.{Analysis, analysis, analysed}
 use Rattle.cs_conversion.specs.Assembly.{Triplets, assembled, number as assemblyNumber}
 use Rattle.cs_pattern.specs.Analyse.{number as analysisNumber, written as writtenAnalysis}
@@ -50,7 +50,3 @@ leaves t old =
           (outputs (analysis_of (assembled t).pattern) (writtenAnalysis (pattern_of t) old.analysis) old.analysis)
           old.analysis;
     }
-
--- the matrix that the front of the slices holds, its entry count being the last pointer
-unfoldable pub held_pattern : ℕ → List ℕ → List ℕ → Pattern
-held_pattern n p i = pattern n n (take (n + 1) p) (take (get_or p n 0) i)

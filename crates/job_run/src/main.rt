@@ -1,8 +1,6 @@
 // The job files that its arguments name, each with its answer in hexadecimal: a file a line.
 #![tactic(auto)]
 
-ghost use Rattle.std.specs.Prelude.{◌≤◌, length};
-
 use reading::fill;
 use std::env::FillError;
 use std::fs::File;
@@ -10,44 +8,21 @@ use std::io;
 use std::io::Read;
 use std::rt::{Env, Files};
 
-fn digit(x: u8) -> u8 {
-    match x {
-        0..=9 => 48 + x,
-        10..=15 => 87 + x,
-        _ => 63,
-    }
-}
-
-// The hexadecimal digits of the bytes, as far as text has room.
-fn spell(bytes: &[u8], text: &mut [u8]) -> usize
-    ensures { result ≤ length text.new }
-{
-    let mut at = 0;
-    let mut k = 0;
-    while k < bytes.len() && k < text.len() / 2 {
-        text[at] = digit(bytes[k] / 16);
-        text[at + 1] = digit(bytes[k] % 16);
-        at += 2;
-        k += 1;
-    }
-    at
-}
-
 fn show(rt: &impl Print, bytes: &[u8]) -> io::Result<()> {
-    let mut text: [u8; 7168] = [0; 7168];
-    let e = spell(bytes, &mut text);
-    rt.write_all(&text[..e])?;
+    for byte in bytes {
+        print!(rt; "{byte:02x}")?;
+    }
     rt.write_all(b"\n")
 }
 
 // Answers what a file holds. A read that fails ends it.
 fn answer<R: Read>(rt: &impl Print, file: &mut R) -> io::Result<()> {
     let mut input: [u8; 40479] = [0; 40479];
+    // room for any answer
     let mut out: [u8; 3584] = [0; 3584];
     let (n, _) = fill(file, &mut input);
-    let r = job::job::job(&input[..n], &mut out);
-    let end = r.written;
-    show(rt, &out[..end])
+    let written = job::job::job(&input[..n], &mut out).unwrap();
+    show(rt, &out[..written])
 }
 
 // A path is text: bytes that are not name no file.

@@ -1,7 +1,8 @@
 -- `cleared`: its length, its places, and the loop that clears, over the element type and its zero. Assumes nothing.
-use Rattle.std.proofs.Common.{◌≡◌, ℕ, zero, suc, ◌+◌, ◌<◌, ◌≤◌, ◌⊎◌, List, [], ◌∷◌, length, get_or, set, replicate, refl, ap, ◌∙◌, ⊎_elim, add-one}
-use Rattle.std.proofs.Common.{arith, length-set}
+use Rattle.std.proofs.Common.{◌≡◌, ℕ, zero, suc, ◌+◌, ◌<◌, ◌≤◌, min, List, [], ◌∷◌, length, get_or, set, replicate, refl, ap, ◌∙◌, ⊎_elim, add-one}
+use Rattle.std.proofs.Common.{arith}
 use Rattle.lists.specs.Calls.{cleared}
+use Rattle.lists.proofs.Bools.{le-or-lt}
 
 module _ {A : Type 0} (z : A) where
   pub length-cleared : (n : ℕ) (l : List A) → length (cleared z n l) ≡ length l
@@ -74,21 +75,12 @@ module _ {A : Type 0} (z : A) where
   past (suc n) (suc k) [] h g = refl
   past (suc n) (suc k) (x ∷ l) h g = ap (λ (t : List A). z ∷ t) (past n k l (omega arith) (omega arith))
 
-  -- ---- the loop
-  pub record Clearing (n : ℕ) (out₀ out : List A) (k : ℕ) : Type 0 where
-    pub long : length out ≡ length out₀
-    pub within : k ≤ n
-    pub is : out ≡ cleared z k out₀
+  -- ---- the loop: one place more, and all that both n and the list have
+  pub clearing_turn : {out : List A} {k : ℕ} (l : List A) → out ≡ cleared z k l → k < length l → set out k z ≡ cleared z (k + 1) l
+  clearing_turn {k = k} l e h = rw (e, add-one) (one_more k l h)
 
-  pub clearing_start : (n : ℕ) (out : List A) → Clearing n out out 0
-  unfolding cleared
-  clearing_start n out = record { long = refl; within = omega arith; is = refl }
-
-  pub clearing_turn : {n : ℕ} {out₀ out : List A} {k : ℕ} → Clearing n out₀ out k → k < n → k < length out → Clearing n out₀ (set out k z) (k + 1)
-  clearing_turn {out₀ = out₀} {out = out} {k = k} v h g =
-      record { long = length-set out k z ∙ v.long; within = omega arith; is = rw (v.is, add-one) (one_more k out₀ (omega (arith, v.long))) }
-
-  pub clearing_done : {n : ℕ} {out₀ out : List A} {k : ℕ} → Clearing n out₀ out k → (n ≤ k) ⊎ (length out ≤ k) → out ≡ cleared z n out₀
-  clearing_done {n = n} {out₀ = out₀} {out = out} {k = k} v h =
-      ⊎_elim (λ (g : n ≤ k). let e : k ≡ n = omega (arith, v.within) in rw (← e) v.is) (λ (g : length out ≤ k). v.is ∙
-      past n k out₀ (omega (arith, v.long)) v.within) h
+  pub clearing_done : {out : List A} {k : ℕ} (n : ℕ) (l : List A) → out ≡ cleared z k l → k ≤ min n (length l) → min n (length l) ≤ k
+      → out ≡ cleared z n l
+  clearing_done {k = k} n l e m h = e ∙ ⊎_elim (λ (g : n ≤ k). let i : k ≡ n = omega arith in rw i refl)
+      (λ (g : k < n). past n k l (omega arith) (omega arith))
+      (le-or-lt n k)

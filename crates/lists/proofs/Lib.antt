@@ -36,3 +36,4 @@ pub mod Finding
 pub mod Recounting
 pub mod Receding
 pub mod Matching
+pub mod Refusals

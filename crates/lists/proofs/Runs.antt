@@ -154,6 +154,18 @@ module _ {A : Type 0} where
   zipped-values [] (v ∷ vs) h = absurd (omega arith)
   zipped-values (x ∷ xs) (v ∷ vs) h = ap (λ (t : List A). v ∷ t) (zipped-values xs vs (omega arith))
 
+  -- the n elements that both have, and behind them what was there
+  pub zipped-front_copied : (n : ℕ) (xs vs : List A) → n ≡ min (length vs) (length xs) → take n vs ++ drop n xs ≡ zipped (λ _ v. v) xs vs
+  unfolding zipped
+  zipped-front_copied n [] vs e = let z : n ≡ 0 = omega arith in rw z (sym (none vs))
+    where
+      none : (vs : List A) → zipped (λ (_ v : A). v) [] vs ≡ []
+      none [] = refl
+      none (v ∷ vs) = refl
+  zipped-front_copied n (x ∷ xs) [] e = let z : n ≡ 0 = omega arith in rw z refl
+  zipped-front_copied zero (x ∷ xs) (v ∷ vs) e = absurd (omega arith)
+  zipped-front_copied (suc n) (x ∷ xs) (v ∷ vs) e = ap (λ (t : List A). v ∷ t) (zipped-front_copied n xs vs (omega arith))
+
 -- ---- a step at each row of a run
 module _ {A B : Type 0} (op : A → B → A) (d : A) (step : ℕ → B → List A → List A) where
   -- from row r on, the step at row z makes x(z) what op gives

@@ -9,3 +9,4 @@ pub mod Choices
 pub mod Keeping
 pub mod Runs
 pub mod Entries
+pub mod Refusals

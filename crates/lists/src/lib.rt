@@ -4,6 +4,7 @@
 pub mod clear;
 pub mod numbers;
 pub mod order;
+pub mod refusal;
 pub mod sides;
 pub mod sums;
 pub mod tight;

@@ -6,15 +6,11 @@ ghost use Rattle.lists.specs.Order.{all_below, starts_with};
 pub fn all_below(l: &[u32], n: u32) -> bool
     ensures { result ≡ all_below l.now n }
 {
-    let mut bad: u32 = 0;
-    let mut k = 0;
-    while k < l.len() {
-        if l[k] >= n {
-            bad = 1;
-        }
-        k += 1;
+    let mut holds = true;
+    for &x in l {
+        holds &= x < n;
     }
-    bad == 0
+    holds
 }
 
 // The slice b starts with what a holds.
@@ -24,13 +20,9 @@ pub fn starts_with(a: &[u32], b: &[u32]) -> bool
     if b.len() < a.len() {
         return false;
     }
-    let mut apart: u32 = 0;
-    let mut q = 0;
-    while q < a.len() {
-        if a[q] != b[q] {
-            apart = 1;
-        }
-        q += 1;
+    let mut same = true;
+    for q in 0..a.len() {
+        same &= a[q] == b[q];
     }
-    apart == 0
+    same
 }

@@ -5,40 +5,20 @@ ghost use Rattle.std.specs.Float.{binary64};
 ghost use Rattle.std.specs.Float.Ieee.{add, mul};
 ghost use Rattle.lists.specs.Runs.{zipped};
 
-use crate::numbers::smaller;
-
 // The elements of one slice, in the front of the other.
-pub fn copy(from: &[u32], out: &mut [u32])
+pub fn copy<T: Copy>(from: &[T], out: &mut [T])
     ensures { out.new ≡ zipped (λ _ v. v) out.old from.now }
 {
-    let n = smaller(from.len(), out.len());
-    let mut k = 0;
-    while k < n {
-        out[k] = from[k];
-        k += 1;
-    }
+    let n = from.len().min(out.len());
+    out[..n].copy_from_slice(&from[..n]);
 }
 
-// The same for values.
-pub fn copy_values(vals: &[f64], out: &mut [f64])
-    ensures { out.new ≡ zipped (λ _ v. v) out.old vals.now }
-{
-    let n = smaller(vals.len(), out.len());
-    let mut at = 0;
-    while at < n {
-        out[at] = vals[at];
-        at += 1;
-    }
-}
-
-// To each element its value times f is added.
+// To each element its value times f is added. The solves and the up factoring subtract, in another order of the factors: their own loops,
+// since no law of std says that the float operations agree.
 pub fn add_times(vals: &[f64], f: f64, x: &mut [f64])
     ensures { x.new ≡ zipped (λ a v. add binary64 a (mul binary64 v f)) x.old vals.now }
 {
-    let n = smaller(vals.len(), x.len());
-    let mut q = 0;
-    while q < n {
+    for q in 0..vals.len().min(x.len()) {
         x[q] = x[q] + vals[q] * f;
-        q += 1;
     }
 }

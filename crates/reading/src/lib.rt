@@ -8,7 +8,7 @@ use std::io;
 use std::io::Read;
 
 // Reads until the slice is full, the input ends or a read fails. How many bytes it put at the slice's start, the next ones of the input,
-// and how it ended: where that is `Ok` and the slice is not full, the input is at its end.
+// and how it ended: where that is `Ok` and the slice is not full, the input is at its end. Both, since the bytes before a failed read count.
 pub fn fill<R: Read>(input: &mut R, out: &mut [u8]) -> (usize, io::Result<()>)
     ensures bound { result.0 ≤ length out.new }
     ensures bytes { Consumes (R.remaining input.old) (R.remaining input.new) (take result.0 out.new) }

@@ -3,7 +3,7 @@
 #![tactic(auto)]
 
 mod calls;
-mod slots;
+mod case;
 
 use std::io;
 

@@ -1,6 +1,6 @@
 -- Bit patterns: what the fields of a positive number say, the pattern of the answer, and the patterns whose roots are not worked out. Assumes nothing.
 use mathlib.Core.Path.{◌≡◌, refl, sym, ap, ◌∙◌, subst}
-use mathlib.Core.Logic.{◌⊎◌, inl, inr}
+use mathlib.Core.Logic.{◌⊎◌, inl, inr, ⊎_elim}
 use Prim.Native.Nat.{ℕ, zero, suc, ◌+◌, ◌-◌, ◌*◌, ◌/◌, ◌%◌, ◌^◌, ◌≤◌, ◌<◌}
 use native.Mathlib.Nat.{add_comm, eq-or-lt_of_le, mul-pos, lt_irrefl, lt_of_lt_of_le, lt_of_le_of_lt}
 use native.Mathlib.Omega.{arith}
@@ -13,6 +13,7 @@ use lib.Ieee.Exact.{odd_sign}
 use lib.Ieee.Fits.{odd-fits, nan-fits, inf-fits}
 use lib.Ieee.Positive.{positive}
 use borrow.Author.Tests.{leb-true, leb-false, lt-leb, le-leb, ne_eqb, le-ltb, lt-ltb}
+use Rattle.std.proofs.lemmas.Bool.{cases_lt}
 use Rattle.float_bits.proofs.Nans.{is_nan_lem}
 use Rattle.root.specs.Root.{rounded, positive_root, root_of, root_bits}
 use Rattle.root.specs.Nearest.{Nearest, Patterns}
@@ -149,6 +150,21 @@ negative_none b h l =
     (ap root_of (pattern b (b % 0x8000_0000_0000_0000 / 0x10_0000_0000_0000) (b % 0x10_0000_0000_0000) true
     (le-leb 0x8000_0000_0000_0000 b (omega arith)) refl refl)
     ∙ negative_fields (b % 0x8000_0000_0000_0000 / 0x10_0000_0000_0000) (b % 0x10_0000_0000_0000) (omega arith) (omega arith))
+
+-- the patterns by the code's cases
+pub self_all : (b : ℕ) → b < 2 ^ 64 → (b ≡ 0) ⊎ ((b ≡ 0x7FF0_0000_0000_0000) ⊎ (b ≡ 0x8000_0000_0000_0000)) → b ≡ root_bits b
+self_all b h s =
+    ⊎_elim
+    (λ (e : b ≡ 0). zero-self b h (omega arith))
+    (⊎_elim (λ (e : b ≡ 0x7FF0_0000_0000_0000). infinity_self b e) (λ (e : b ≡ 0x8000_0000_0000_0000). zero-self b h (omega arith)))
+    s
+
+pub none_above : (b : ℕ) → b < 2 ^ 64 → 0x7FF0_0000_0000_0000 < b → (b ≡ 0x8000_0000_0000_0000 → ⊥) → 0x7FF8_0000_0000_0000 ≡ root_bits b
+none_above b h l n =
+    ⊎_elim
+    (λ (g : 0x8000_0000_0000_0000 < b). negative_none b h g)
+    (λ (g : b ≤ 0x8000_0000_0000_0000). nan_none b (omega (arith, n)))
+    (cases_lt 0x8000_0000_0000_0000 b)
 
 patterns : (b : ℕ) → b < 2 ^ 64 → Patterns b (root_bits b)
 patterns b h = record {

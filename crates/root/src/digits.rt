@@ -10,8 +10,7 @@ pub fn whole_root(a: u64) -> u64
     let mut left = a;
     let mut rem: u64 = 0;
     let mut root: u64 = 0;
-    let mut i: u32 = 0;
-    while i < 27 {
+    for _ in 0..27u32 {
         rem = rem * 4 + left / 0x10_0000_0000_0000;
         left = (left % 0x10_0000_0000_0000) * 4;
         let trial = root * 4 + 1;
@@ -21,7 +20,6 @@ pub fn whole_root(a: u64) -> u64
         } else {
             root = root * 2;
         }
-        i += 1;
     }
     root
 }

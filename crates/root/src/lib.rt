@@ -20,19 +20,11 @@ const NAN: u64 = 0x7FF8_0000_0000_0000;
 pub fn root_bits(b: u64) -> u64
     ensures { (result ≡ root_bits b) × Patterns b result × Nearest (of_bits binary64 b) (of_bits binary64 result) }
 {
-    if b % 0x8000_0000_0000_0000 == 0 {
-        return b;
+    match b {
+        0 | 0x8000_0000_0000_0000 | 0x7FF0_0000_0000_0000 => b,
+        1..=0x7FEF_FFFF_FFFF_FFFF => positive::positive_root(b),
+        _ => NAN,
     }
-    if b > 0x8000_0000_0000_0000 {
-        return NAN;
-    }
-    if b > 0x7FF0_0000_0000_0000 {
-        return NAN;
-    }
-    if b == 0x7FF0_0000_0000_0000 {
-        return b;
-    }
-    positive::positive_root(b)
 }
 
 // The square root of x.

@@ -40,10 +40,8 @@ pub fn near_root(a: u64) -> u64
     ensures { Largest a result }
 {
     let s = closer(a, guess(a));
-    if s * s <= a {
-        if a < (s + 1) * (s + 1) {
-            return s;
-        }
+    if s * s <= a && a < (s + 1) * (s + 1) {
+        return s;
     }
     whole_root(a)
 }

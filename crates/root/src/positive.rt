@@ -13,9 +13,9 @@ fn scaled_root(u: u64, x: u64) -> u64
     requires { (0 < u) × (u < 2 ^ 53) × (1 ≤ x) × (x ≤ 2046) }
     ensures { result ≡ to_bits binary64 (positive_root (u * 2 ^ (x - 1))) }
 {
-    let z = u64::leading_zeros(u);
+    let z = u64::from(u.leading_zeros());
     let m = u << (z - 11);
-    let i = x + 62 - (z as u64);
+    let i = x + 62 - z;
     let a = rounded_root(m << (i % 2));
     (i / 2 + 485) * 0x10_0000_0000_0000 + a
 }

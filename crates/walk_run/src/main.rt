@@ -3,9 +3,10 @@
 // A write that fails ends the program with its error.
 #![tactic(auto)]
 
-use cs_walk::column_entries::{Entry, check_parts, next_entry};
+use cs_walk::column_entries::{check_parts, next_entry};
 use float_bits::bits_of;
 use lists::numbers::wide;
+use lists::refusal;
 use std::io;
 
 fn text(rt: &impl Print, s: &str) -> io::Result<()> {
@@ -21,20 +22,18 @@ fn value(rt: &impl Print, x: f64) -> io::Result<()> {
     print!(rt; " {bits:016x}")
 }
 
-fn show(rt: &impl Print, e: Entry) -> io::Result<()> {
-    match e {
-        Entry::Pair(row, x) => {
-            number(rt, wide(row))?;
-            value(rt, x)
-        }
-        Entry::End => text(rt, " end"),
-    }
+fn show(rt: &impl Print, entry: Option<(u32, f64)>) -> io::Result<()> {
+    let Some((row, x)) = entry else {
+        return text(rt, " end");
+    };
+    number(rt, wide(row))?;
+    value(rt, x)
 }
 
 // One call from a position: what it tells, and the position behind.
 fn call(rt: &impl Print, curr: usize, i: &[u32], v: &[f64]) -> io::Result<usize> {
     let s = next_entry(curr, i, v);
-    number(rt, wide(s.number))?;
+    number(rt, wide(refusal::number(s.answer)))?;
     show(rt, s.entry)?;
     number(rt, s.curr)?;
     number(rt, s.left)?;
@@ -52,7 +51,7 @@ fn walk(
     calls: usize,
 ) -> io::Result<()> {
     text(rt, name)?;
-    number(rt, wide(check_parts(i, v)))?;
+    number(rt, wide(refusal::number(check_parts(i, v))))?;
     text(rt, "\n")?;
     let mut curr = from;
     for _ in 0..calls {
@@ -63,17 +62,10 @@ fn walk(
 
 // A column as the part between its two pointers, with two calls more than it has entries.
 fn column(rt: &impl Print, name: &str, a: usize, e: usize, i: &[u32], v: &[f64]) -> io::Result<()> {
-    if e > i.len() {
+    if a > e || e > i.len() || e > v.len() {
         return Ok(());
     }
-    if e > v.len() {
-        return Ok(());
-    }
-    if a > e {
-        return Ok(());
-    }
-    let n = e - a;
-    walk(rt, name, 0, &i[a..e], &v[a..e], n + 2)
+    walk(rt, name, 0, &i[a..e], &v[a..e], e - a + 2)
 }
 
 // The columns of document 01's matrix Q.
@@ -91,7 +83,7 @@ fn small(rt: &impl Print) -> io::Result<()> {
     walk(rt, "empty", 0, &[], &[], 2)?;
     walk(rt, "single", 0, &[7], &[0.5], 3)?;
     walk(rt, "zeros", 0, &[0, 65534], &[-0.0, 0.0], 3)?;
-    walk(rt, "not a number", 0, &[4294967295], &[0.0 / 0.0], 2)
+    walk(rt, "not a number", 0, &[u32::MAX], &[f64::NAN], 2)
 }
 
 // From a position inside, at the end, past it, and as far past as can be.
@@ -102,7 +94,7 @@ fn positions(rt: &impl Print) -> io::Result<()> {
     walk(
         rt,
         "from the last",
-        18446744073709551615,
+        usize::MAX,
         &[5, 6, 7],
         &[1.0, 2.0, 3.0],
         2,

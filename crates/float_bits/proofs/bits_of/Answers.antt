@@ -1,9 +1,7 @@
 -- `float_bits::bits_of` meets its contract. Assumes nothing.
-use Rattle.float_bits.proofs.Nans.{nan_bits_lem, not_nan}
+use mathlib.Core.Path.{sym, ◌∙◌}
+use Rattle.float_bits.proofs.Nans.{nan_bits_lem}
 use Rattle.float_bits.proofs.bits_of.Goals as goal
 
-pub returns-then-x : goal.returns-then-x
-returns-then-x c = nan_bits_lem c.args.x c.if-x.true
-
-pub float_to_bits-result : goal.float_to_bits-result
-float_to_bits-result c = not_nan c.args.x c.if-x.false
+pub returns-then-is_nan : goal.returns-then-is_nan
+returns-then-is_nan c = nan_bits_lem c.args.x (sym c.is_nan.ensures.value ∙ c.if-is_nan.true)

@@ -7,4 +7,4 @@ pub returns-then-at-s : goal.returns-then-at-s
 returns-then-at-s c = past 8 c.args.s.now c.args.at c.if-at-s.true
 
 pub returns : goal.returns
-returns c = eight_are c.args.s.now c.args.at (c.half.ensures.0 ∙ c.u32_at.ensures) (c.half-2.ensures.0 ∙ c.u32_at-2.ensures)
+returns c = eight_are c.args.s.now c.args.at (c.from.ensures ∙ c.u32_at.ensures) (c.from-2.ensures ∙ c.u32_at-2.ensures)

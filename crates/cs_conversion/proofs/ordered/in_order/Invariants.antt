@@ -1,11 +1,6 @@
 -- `in_order` meets its contract. Assumes nothing.
-use Prim.Native.Nat.{◌-◌}
-use lib.ListN.{length}
 use Rattle.cs_conversion.proofs.InOrder.{Watching}
 use Rattle.cs_conversion.proofs.ordered.in_order.Given as goal
 
 abbrev pub invariant-loop-k : goal.invariant-loop-k
 invariant-loop-k l = Watching l.rows l.cols l.bad l.k
-
-abbrev pub decreases-loop-k : goal.decreases-loop-k
-decreases-loop-k l = length l.rows - l.k

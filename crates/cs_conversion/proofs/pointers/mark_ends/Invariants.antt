@@ -1,11 +1,6 @@
 -- `mark_ends` meets its contract. Assumes nothing.
-use Prim.Native.Nat.{◌-◌}
-use lib.ListN.{length}
 use Rattle.cs_conversion.proofs.Pointing.{Ending}
 use Rattle.cs_conversion.proofs.pointers.mark_ends.Given as goal
 
 abbrev pub invariant-loop-k : goal.invariant-loop-k
 invariant-loop-k l = Ending l.cols l.initial.p l.p l.k
-
-abbrev pub decreases-loop-k : goal.decreases-loop-k
-decreases-loop-k l = length l.cols - l.k

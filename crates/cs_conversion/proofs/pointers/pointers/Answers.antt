@@ -1,13 +1,10 @@
 -- `pointers` meets its contract. Assumes nothing.
-use Rattle.cs_conversion.proofs.Columns.{cleared_long, cleared-zeros}
+use Rattle.cs_conversion.proofs.Columns.{cleared-zeros}
 use Rattle.cs_conversion.proofs.Pointing.{lent_placed, pointers_are}
 use Rattle.cs_conversion.proofs.pointers.pointers.Goals as goal
 
-pub slice_bounds-starts-end-2 : goal.slice_bounds-starts-end-2
-slice_bounds-starts-end-2 c = cleared_long _ c.clear.ensures c.requires.2
-
 pub starts-requires : goal.starts-requires
-starts-requires c = (c.requires.0, lent_placed _ _ c.clear.ensures c.requires.2 c.requires.1, cleared-zeros _ c.clear.ensures c.requires.2)
+starts-requires c = (c.requires.0, lent_placed _ _ c.fill.ensures c.requires.2 c.requires.1, cleared-zeros _ c.fill.ensures c.requires.2)
 
 pub returns : goal.returns
-returns c = pointers_are _ _ c.clear.ensures c.requires.2 _ c.starts.auto.p c.starts.ensures
+returns c = pointers_are _ _ c.fill.ensures c.requires.2 _ c.starts.auto.p c.starts.ensures

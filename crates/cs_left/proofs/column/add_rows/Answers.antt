@@ -1,24 +1,9 @@
 -- `add_rows`: the loop of lists/proofs/Entries.antt. Assumes nothing.
-use Rattle.lists.proofs.Entries.{passing_start, passing_row, passing_value, passing_end, plus_turn}
+use Rattle.lists.proofs.Entries.{passing_end, plus_turn}
 use Rattle.cs_left.proofs.column.add_rows.Goals as goal
-
-pub loop-q-init : goal.loop-q-init
-loop-q-init c = passing_start _ c.requires
-
-pub bounds-x-z : goal.bounds-x-z
-bounds-x-z c = passing_row c.loop-q.invariant c.loop-q-test.true c.wide-z.ensures.0
-
-pub bounds-vals-q : goal.bounds-vals-q
-bounds-vals-q c = passing_value c.loop-q.invariant c.loop-q-test.true
-
-pub bounds-x-z-in-loop-q : goal.bounds-x-z-in-loop-q
-bounds-x-z-in-loop-q c = passing_row c.loop-q.invariant c.loop-q-test.true c.wide-z.ensures.0
 
 pub loop-q-preserved : goal.loop-q-preserved
 loop-q-preserved c = plus_turn _ c.loop-q.invariant c.loop-q-test.true c.wide-z.ensures.0
-
-pub shape_of-x : goal.shape_of-x
-shape_of-x c = c.loop-q.invariant.long
 
 pub returns : goal.returns
 returns c = passing_end c.loop-q.invariant c.loop-q-test.false

@@ -8,9 +8,3 @@ slice_bounds-add_times-end c = run-within c.args.x.now c.requires (sym c.tight.e
 
 pub returns-then-tight : goal.returns-then-tight
 returns-then-tight c = run_plus c.args.x.now c.requires (sym c.tight.ensures ∙ c.if-tight.true) c.wide-first.ensures.0 _ c.add_times.ensures
-
-pub add_rows-requires : goal.add_rows-requires
-add_rows-requires c = c.requires.0
-
-pub returns : goal.returns
-returns c = c.add_rows.ensures

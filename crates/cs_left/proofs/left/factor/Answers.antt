@@ -1,9 +1,5 @@
 -- `factor` meets its contract. Assumes nothing.
-use lib.ListN.{length}
-use mathlib.Core.Path.{sym, ap}
-use borrow.Author.Tests.{not-true, not-false}
-use native.Mathlib.Omega.{arith}
-use mathlib.Core.Path.{refl, ◌∙◌}
+use mathlib.Core.Path.{refl}
 use Rattle.cs_left.proofs.Turning.{state_start, state_gathers, state_stop, state_finishes, state_turn, state_end}
 use Rattle.cs_left.proofs.left.factor.Goals as goal
 
@@ -13,38 +9,17 @@ loop-k-init c = state_start _ c.requires
 pub gather-pivot-requires : goal.gather-pivot-requires
 gather-pivot-requires c = state_gathers c.requires.served c.requires.none_stray refl c.loop-k.invariant c.loop-k-test.true
 
-pub overflow_cast-column : goal.overflow_cast-column
-overflow_cast-column c = omega (arith, c.loop-k-test.true, c.requires.served.valid.pattern.cols)
-
-pub shape_of-lx-then-not-pivot : goal.shape_of-lx-then-not-pivot
-shape_of-lx-then-not-pivot c = c.loop-k.invariant.lx_long
-
 pub returns-then-not-pivot : goal.returns-then-not-pivot
-returns-then-not-pivot c = state_stop c.requires.served c.requires.none_stray refl c.loop-k.invariant c.loop-k-test.true c.gather-pivot.auto.x
-    c.gather-pivot.ensures (not-true _ c.if-not-pivot.true-raw)
+returns-then-not-pivot c = rw c.number.ensures (state_stop c.requires.served c.requires.none_stray refl c.loop-k.invariant c.loop-k-test.true
+    c.gather-pivot.auto.x c.gather-pivot.ensures c.if-not-pivot.true)
 
 pub finish-requires : goal.finish-requires
 finish-requires c = state_finishes c.requires.served c.requires.none_stray refl c.loop-k.invariant c.loop-k-test.true c.gather-pivot.auto.x
     c.gather-pivot.ensures
 
-pub overflow_add-k : goal.overflow_add-k
-overflow_add-k c = omega (arith, c.loop-k-test.true, c.requires.served.valid.pattern.cols)
-
-pub loop-k-smaller : goal.loop-k-smaller
-loop-k-smaller c = omega (arith, c.loop-k-test.true)
-
 pub loop-k-preserved : goal.loop-k-preserved
 loop-k-preserved c = state_turn c.requires.served c.requires.none_stray refl c.loop-k.invariant c.loop-k-test.true c.gather-pivot.auto.x
-    c.gather-pivot.ensures (not-false _ c.if-not-pivot.false-raw) c.root.ensures.0 c.finish.ensures
-
-pub shape_of-lx : goal.shape_of-lx
-shape_of-lx c = c.loop-k.invariant.lx_long
-
-pub shape_of-next : goal.shape_of-next
-shape_of-next c = c.loop-k.invariant.next_long ∙ sym c.requires.next_long
-
-pub shape_of-x : goal.shape_of-x
-shape_of-x c = ap length c.loop-k.invariant.zeros ∙ sym (ap length c.requires.zeros)
+    c.gather-pivot.ensures c.if-not-pivot.false c.root.ensures.0 c.finish.ensures
 
 pub returns : goal.returns
-returns c = state_end c.requires.served c.requires.none_stray refl c.loop-k.invariant c.loop-k-test.false c.refused.ensures
+returns c = state_end c.requires.served c.requires.none_stray refl c.loop-k.invariant c.loop-k-test.false

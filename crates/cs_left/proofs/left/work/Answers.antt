@@ -1,21 +1,10 @@
 -- `work` meets its contract. Assumes nothing.
 use mathlib.Core.Path.{refl}
-use native.Mathlib.Omega.{arith}
-use Rattle.cs_left.proofs.Working.{work_blank, work-whole}
+use Rattle.cs_left.proofs.Working.{work_11, work_0}
 use Rattle.cs_left.proofs.left.work.Goals as goal
 
-pub factor-answer-requires : goal.factor-answer-requires
-factor-answer-requires c = c.requires
+pub returns-in-Err : goal.returns-in-Err
+returns-in-Err c = work_11 c.requires.served _ _ refl c.factor.auto.lx c.in-Err.ensures.1 c.in-Err.ensures.0 c.wide.ensures.0 c.fill.ensures
 
-pub offset_bounds-up-n : goal.offset_bounds-up-n
-offset_bounds-up-n c = omega (arith, c.requires.served.valid.pattern.cols)
-
-pub bounds-up-n : goal.bounds-up-n
-bounds-up-n c = omega (arith, c.requires.served.u_laid.pointed.long, c.requires.served.u_long)
-
-pub returns-then-answer-eq11 : goal.returns-then-answer-eq11
-returns-then-answer-eq11 c = work_blank c.requires.served _ _ c.factor-answer.ensures refl c.factor-answer.auto.lx c.if-answer-eq11.true
-    c.wide.ensures.0 c.clear_values.ensures
-
-pub returns-else-answer-eq11 : goal.returns-else-answer-eq11
-returns-else-answer-eq11 c = work-whole c.requires.served _ _ c.factor-answer.ensures refl c.factor-answer.auto.lx c.if-answer-eq11.false
+pub returns : goal.returns
+returns c = work_0 c.requires.served _ _ refl c.factor.auto.lx c.in_default.ensures.1 c.in_default.ensures.0

@@ -1,19 +1,13 @@
 -- `meet`: the step of proofs/Mirroring.antt. Assumes nothing.
-use native.Mathlib.Omega.{arith}
 use Rattle.cs_left.proofs.Mirroring.{meet_end, meet_other, meet_is}
 use Rattle.cs_left.proofs.mirror.meet.Goals as goal
-
-pub returns-then-s-e : goal.returns-then-s-e
-returns-then-s-e c = meet_end _ _ _ _ _ c.wide-s.ensures.0 c.wide-e.ensures.0 c.if-s-e.true
+use Rattle.cs_left.proofs.mirror.meet.Goals.{else-s-e-via-then-s-e+else-wide-c, else-s-e-via-else-s-e}
 
 pub returns-then-wide-c : goal.returns-then-wide-c
-returns-then-wide-c c = meet_other _ _ _ _ _ c.wide-s.ensures.0 c.wide-e.ensures.0 c.if-s-e.false c.wide.ensures.0 c.if-wide-c.true
+returns-then-wide-c c = meet_is _ _ _ _ _ c.wide-s.ensures.0 c.wide-e.ensures.0 c.if-s-e.true c.wide.ensures.0 c.if-wide-c.true
 
-pub overflow_add-next : goal.overflow_add-next
-overflow_add-next c = record { fits = omega (arith, c.if-s-e.false, c.wide-e.ensures.1) }
-
-pub overflow_cast-next : goal.overflow_cast-next
-overflow_cast-next c = record { fits = omega (arith, c.if-s-e.false, c.wide-e.ensures.1) }
-
-pub returns : goal.returns
-returns c = meet_is _ _ _ _ _ c.wide-s.ensures.0 c.wide-e.ensures.0 c.if-s-e.false c.wide.ensures.0 c.if-wide-c.false
+pub returns-else-s-e : goal.returns-else-s-e
+returns-else-s-e c = let s = c.wide-s.ensures.0 in let e = c.wide-e.ensures.0 in elim c.else-s-e.branch [
+  | else-s-e-via-then-s-e+else-wide-c w ↦ meet_other _ _ _ _ _ s e w.if-s-e.true w.wide.ensures.0 w.if-wide-c.false
+  | else-s-e-via-else-s-e w ↦ meet_end _ _ _ _ _ s e w.if-s-e.false
+]

@@ -1,26 +1,17 @@
--- `some_stray`: the loop of proofs/Straying.antt. Assumes nothing.
-use native.Mathlib.Omega.{arith}
-use Rattle.lists.proofs.Choices.{upward_start}
-use Rattle.cs_left.proofs.Straying.{seeks_at, strays-found, strays-turn, strays-end}
+-- `some_stray`: the call of `any`, by proofs/Straying.antt. Assumes nothing.
+use mathlib.Core.Path.{refl, ◌∙◌}
+use Rattle.std.proofs.Common.{arith, rules, tests}
+use Rattle.std.proofs.lemmas.Iterator.{YieldsList-from_range}
+use Rattle.std.proofs.lemmas.Iterator.Search.{any_from_yields_List}
+use Rattle.cs_matrix.specs.Lent.{pattern_of}
+use Rattle.cs_pattern.specs.Lent.{analysis_of}
+use Rattle.cs_left.specs.Steps.{stray_at}
+use Rattle.cs_left.proofs.Straying.{any-chosen}
 use Rattle.cs_left.proofs.stray.some_stray.Goals as goal
 
-pub loop-k-init : goal.loop-k-init
-loop-k-init c = upward_start _ _
-
-pub stray_at-requires : goal.stray_at-requires
-stray_at-requires c = seeks_at c.requires c.loop-k-test.true
-
-pub returns-then-stray_at : goal.returns-then-stray_at
-returns-then-stray_at c = strays-found _ _ _ _ c.loop-k.invariant c.loop-k-test.true c.stray_at.ensures c.if-stray_at.true
-
-pub overflow_add-k : goal.overflow_add-k
-overflow_add-k c = record { fits = omega (arith, c.loop-k-test.true, c.requires.0.stored.few) }
-
-pub loop-k-smaller : goal.loop-k-smaller
-loop-k-smaller c = omega (arith, c.loop-k-test.true)
-
-pub loop-k-preserved : goal.loop-k-preserved
-loop-k-preserved c = strays-turn _ _ _ _ c.loop-k.invariant c.loop-k-test.true c.stray_at.ensures c.if-stray_at.false
-
 pub returns : goal.returns
-returns c = strays-end _ _ _ _ c.loop-k.invariant c.loop-k-test.false
+returns c =
+    let f = stray_at (pattern_of c.args.a) (analysis_of c.args.given) in
+    any_from_yields_List f _ _ c.any.result c.any.ensures.ran (YieldsList-from_range 0 c.args.a.ncols c.args.a.ncols refl (omega arith))
+    (λ x b q k. search (rules, tests))
+    ∙ any-chosen f c.args.a.ncols

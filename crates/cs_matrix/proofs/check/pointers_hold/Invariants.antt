@@ -1,11 +1,8 @@
--- `pointers_hold`: the first, the last, then every pair of neighbours, and `falls` tells. Assumes nothing.
-use Prim.Native.Nat.{◌-◌}
-use Rattle.lists.proofs.Folds.{Telling}
+-- `pointers_hold`: whether the pairs looked at so far climb. Assumes nothing.
+use Rattle.std.proofs.Common.{◌≡◌}
+use Rattle.lists.specs.Folds.{every}
 use Rattle.cs_matrix.proofs.Pointers.{climbs_at}
 use Rattle.cs_matrix.proofs.check.pointers_hold.Given as goal
 
 abbrev pub invariant-loop-k : goal.invariant-loop-k
-invariant-loop-k l = Telling (climbs_at l.p) l.last l.falls l.k
-
-abbrev pub decreases-loop-k : goal.decreases-loop-k
-decreases-loop-k l = l.last - l.k
+invariant-loop-k l = l.climbs ≡ every l.k (climbs_at l.p)

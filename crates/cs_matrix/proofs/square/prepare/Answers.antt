@@ -1,20 +1,19 @@
 -- `prepare` meets its contract. Assumes nothing.
-use Rattle.cs_matrix.proofs.Squaring.{prepare_refused, larger_small, prepare_6, prepare_0}
+use Rattle.std.proofs.Common.{refl, arith, []}
 use Rattle.lists.specs.Calls.{scratch}
-use native.Mathlib.Omega.{arith}
-use mathlib.Core.List.{[]}
+use Rattle.lists.proofs.Refusals.{passed-number, passed-some}
+use Rattle.cs_matrix.proofs.Squaring.{prepare_refused, larger_small, prepare_6, prepare_0}
 use Rattle.cs_matrix.proofs.square.prepare.Goals as goal
 
-pub returns-then-refused-ne0 : goal.returns-then-refused-ne0
-returns-then-refused-ne0 c = prepare_refused _ _ c.check_square-refused.ensures c.if-refused-ne0.true
+pub returns-in_err-check_square : goal.returns-in_err-check_square
+returns-in_err-check_square c = prepare_refused _ _ (passed-number _ _ c.from_residual.ensures.1 c.in_err-check_square.ensures)
+    (passed-some _ _ c.from_residual.ensures.1)
 
 pub overflow_add-need : goal.overflow_add-need
-overflow_add-need c = omega (arith, larger_small _ (scratch [] [] [] []) c.check_square-refused.ensures c.if-refused-ne0.false c.larger-need.ensures)
+overflow_add-need c = omega (arith, larger_small _ (scratch [] [] [] []) c.in_ok-check_square.ensures refl c.max-need.ensures)
 
 pub returns-then-too_narrow : goal.returns-then-too_narrow
-returns-then-too_narrow c = prepare_6 _ _ c.check_square-refused.ensures c.if-refused-ne0.false c.larger-need.ensures c.too_narrow.ensures
-    c.if-too_narrow.true
+returns-then-too_narrow c = prepare_6 _ _ c.in_ok-check_square.ensures refl c.max-need.ensures c.too_narrow.ensures c.if-too_narrow.true
 
 pub returns : goal.returns
-returns c = prepare_0 _ _ c.check_square-refused.ensures c.if-refused-ne0.false c.larger-need.ensures c.too_narrow.ensures c.if-too_narrow.false
-    c.clear_scratch.ensures
+returns c = prepare_0 _ _ c.in_ok-check_square.ensures refl c.max-need.ensures c.too_narrow.ensures c.if-too_narrow.false c.clear_scratch.ensures

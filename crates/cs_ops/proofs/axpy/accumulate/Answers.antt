@@ -1,25 +1,21 @@
 -- `accumulate`: the loop of proofs/Adding.antt, from y times β. Assumes nothing.
-use mathlib.Core.Path.{refl, ap, ◌∙◌}
-use lib.ListN.{length}
-use Rattle.cs_ops.proofs.Adding.{added-done, length-scaled, storing_start, storing_turn, in_y, fitting_scaled}
+use mathlib.Core.Path.{refl, ◌∙◌}
+use lib.Ieee.{nan}
+use Rattle.std.proofs.Common.{rules, arith, length-append}
+use Rattle.std.proofs.lemmas.Slice.Zip.{zip_turn, zip_end}
+use Rattle.cs_ops.proofs.Adding.{added-done, storing_turn}
 use Rattle.cs_ops.specs.Axpy.{add_at}
 use Rattle.cs_ops.proofs.axpy.accumulate.Goals as goal
 
-pub loop-k-init : goal.loop-k-init
-loop-k-init c = storing_start _ _ (fitting_scaled _ c.times.ensures c.requires)
-
-pub bounds-y-at : goal.bounds-y-at
-bounds-y-at c = in_y _ _ c.loop-k.invariant c.loop-k-test.true c.wide-at.ensures.0
-
-pub bounds-y-at-in-loop-k : goal.bounds-y-at-in-loop-k
-bounds-y-at-in-loop-k c = in_y _ _ c.loop-k.invariant c.loop-k-test.true c.wide-at.ensures.0
-
-pub loop-k-preserved : goal.loop-k-preserved
+pub loop-row-preserved : goal.loop-row-preserved
 unfolding add_at
-loop-k-preserved c = storing_turn _ _ c.loop-k.invariant c.loop-k-test.true c.wide-at.ensures.0 _ refl
-
-pub shape_of-y : goal.shape_of-y
-shape_of-y c = c.loop-k.invariant.long ∙ ap length c.times.ensures ∙ length-scaled _ _
+loop-row-preserved c =
+    let t = zip_turn c.args.x.i.now c.args.x.v.now _ _ _ c.next.new.self _
+    (search rules) (search rules) c.loop-row.yielded_by _ c.in-Some.is c.next.ensures.steps in
+    rw (length-append, t.3 nan) (storing_turn _ _ c.loop-row.invariant t.0 (c.wide-at.ensures.0 ∙ t.2 0) _ refl)
 
 pub returns : goal.returns
-returns c = added-done _ _ _ _ c.loop-k.invariant c.times.ensures c.loop-k-test.false
+returns c =
+    let n = zip_end c.args.x.i.now c.args.x.v.now _ _ _ c.next.new.self _
+    (search rules) (search rules) c.loop-row.yielded_by c.in-None.is c.next.ensures.steps in
+    added-done _ _ _ _ c.loop-row.invariant c.times.ensures (omega arith)

@@ -1,22 +1,22 @@
 -- `assign`: the loop of proofs/Adding.antt. Assumes nothing.
-use mathlib.Core.Path.{refl}
+use mathlib.Core.Path.{refl, ◌∙◌}
+use lib.Ieee.{nan}
+use Rattle.std.proofs.Common.{rules, arith, length-append}
+use Rattle.std.proofs.lemmas.Slice.Zip.{zip_turn, zip_end}
 use Rattle.cs_ops.specs.Axpy.{assign_at, assigned}
-use Rattle.cs_ops.proofs.Adding.{storing_start, storing_turn, storing_done, in_y}
+use Rattle.cs_ops.proofs.Adding.{storing_turn, storing_done}
 use Rattle.cs_ops.proofs.axpy.assign.Goals as goal
 
-pub loop-k-init : goal.loop-k-init
-loop-k-init c = storing_start _ _ c.requires
-
-pub bounds-y-at : goal.bounds-y-at
-bounds-y-at c = in_y _ _ c.loop-k.invariant c.loop-k-test.true c.wide-at.ensures.0
-
-pub loop-k-preserved : goal.loop-k-preserved
+pub loop-row-preserved : goal.loop-row-preserved
 unfolding assign_at
-loop-k-preserved c = storing_turn _ _ c.loop-k.invariant c.loop-k-test.true c.wide-at.ensures.0 _ refl
-
-pub shape_of-y : goal.shape_of-y
-shape_of-y c = c.loop-k.invariant.long
+loop-row-preserved c =
+    let t = zip_turn c.args.x.i.now c.args.x.v.now _ _ _ c.next.new.self _
+    (search rules) (search rules) c.loop-row.yielded_by _ c.in-Some.is c.next.ensures.steps in
+    rw (length-append, t.3 nan) (storing_turn _ _ c.loop-row.invariant t.0 (c.wide-at.ensures.0 ∙ t.2 0) _ refl)
 
 pub returns : goal.returns
 unfolding assigned
-returns c = storing_done _ _ c.loop-k.invariant c.loop-k-test.false
+returns c =
+    let n = zip_end c.args.x.i.now c.args.x.v.now _ _ _ c.next.new.self _
+    (search rules) (search rules) c.loop-row.yielded_by c.in-None.is c.next.ensures.steps in
+    storing_done _ _ c.loop-row.invariant (omega arith)

@@ -1,10 +1,7 @@
 -- `count_column` meets its contract. Assumes nothing.
 use Rattle.cs_tree.proofs.Bumping.{Rowing}
-use Rattle.std.proofs.Common.{◌-◌, ◌≤◌, length}
+use Rattle.std.proofs.Common.{◌≤◌, length}
 use Rattle.cs_pattern.proofs.count.count_column.Given as goal
 
-abbrev pub invariant-loop-q : goal.invariant-loop-q
-invariant-loop-q l = Rowing l.k l.par l.rows l.initial.mark l.mark l.initial.counts l.counts l.count l.q × (length l.rows ≤ 4194304)
-
-abbrev pub decreases-loop-q : goal.decreases-loop-q
-decreases-loop-q l = length l.rows - l.q
+abbrev pub invariant-loop-row : goal.invariant-loop-row
+invariant-loop-row l = Rowing l.k l.par l.rows l.initial.mark l.mark l.initial.counts l.counts l.count l.row-index × (length l.rows ≤ 4194304)

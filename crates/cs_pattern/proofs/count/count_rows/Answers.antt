@@ -1,5 +1,5 @@
 -- `count_rows` meets its contract. Assumes nothing.
-use Rattle.std.proofs.Common.{sym, ◌∙◌, arith}
+use Rattle.std.proofs.Common.{arith}
 use Rattle.cs_pattern.proofs.Columns.{inside, few_columns, outside, as_many, part_few, columns_long, here, part-is, part-rises}
 use Rattle.lists.proofs.Keeping.{kept-wider}
 use Rattle.cs_tree.proofs.Bumping.{totting_start, tot_small, tot_kept, totting_turn, totting_stop, totting_done}
@@ -9,23 +9,17 @@ use Rattle.cs_pattern.proofs.count.count_rows.Goals as goal
 pub loop-k-init : goal.loop-k-init
 loop-k-init c = totting_start (as_many c.requires.0 c.requires.2) (omega (arith, columns_long c.requires.0, c.requires.4)) c.requires.3
 
-pub slice_bounds-count_column-count : goal.slice_bounds-count_column-count
-slice_bounds-count_column-count c = (here c.requires.0 c.loop-k-test.true c.wide-a.ensures.0 c.wide-e.ensures.0).order
-
-pub slice_bounds-count_column-start : goal.slice_bounds-count_column-start
-slice_bounds-count_column-start c = (here c.requires.0 c.loop-k-test.true c.wide-a.ensures.0 c.wide-e.ensures.0).order
-
 pub slice_bounds-count_column-end : goal.slice_bounds-count_column-end
-slice_bounds-count_column-end c = (here c.requires.0 c.loop-k-test.true c.wide-a.ensures.0 c.wide-e.ensures.0).inside
+slice_bounds-count_column-end c = (here c.requires.0 c.loop-k-test.true c.wide-start.ensures.0 c.wide-end.ensures.0).inside
 
 pub count_column-total-requires : goal.count_column-total-requires
 count_column-total-requires c = (
   given_walks c.requires.1 (inside c.requires.0 c.loop-k-test.true) c.loop-k.invariant.m_long,
   c.loop-k.invariant.fresh,
-  part_few c.requires.0 c.loop-k-test.true c.wide-a.ensures.0 c.wide-e.ensures.0,
+  part_few c.requires.0 c.loop-k-test.true c.wide-start.ensures.0 c.wide-end.ensures.0,
   omega (arith, c.loop-k.invariant.wide, inside c.requires.0 c.loop-k-test.true),
-  part-rises c.requires.0 c.loop-k-test.true c.wide-a.ensures.0
-      c.wide-e.ensures.0,
+  part-rises c.requires.0 c.loop-k-test.true c.wide-start.ensures.0
+      c.wide-end.ensures.0,
 )
 
 pub overflow_add-total : goal.overflow_add-total
@@ -33,28 +27,26 @@ overflow_add-total c = omega (
   arith,
   c.loop-k.invariant.few,
   tot_small c.requires.1 c.loop-k.invariant (inside c.requires.0 c.loop-k-test.true)
-      (part-is c.requires.0 c.loop-k-test.true c.wide-a.ensures.0 c.wide-e.ensures.0) c.count_column-total.auto.mark c.count_column-total.ensures,
+      (part-is c.requires.0 c.loop-k-test.true c.wide-start.ensures.0 c.wide-end.ensures.0) c.count_column-total.auto.mark
+      c.count_column-total.ensures,
 )
 
-pub returns-then-total-gt-MOST : goal.returns-then-total-gt-MOST
-returns-then-total-gt-MOST c = (
+pub returns-then-total-gt-MAX_ENTRIES : goal.returns-then-total-gt-MAX_ENTRIES
+returns-then-total-gt-MAX_ENTRIES c = (
   totting_stop c.requires.1 c.loop-k.invariant (inside c.requires.0 c.loop-k-test.true)
-      (part-is c.requires.0 c.loop-k-test.true c.wide-a.ensures.0 c.wide-e.ensures.0) c.count_column-total.auto.mark c.count_column-total.ensures
-      c.if-total-gt-MOST.true,
+      (part-is c.requires.0 c.loop-k-test.true c.wide-start.ensures.0 c.wide-end.ensures.0) c.count_column-total.auto.mark
+      c.count_column-total.ensures c.if-total-gt-MAX_ENTRIES.true,
   kept-wider _ (few_columns c.requires.0)
-      (tot_kept c.requires.1 c.loop-k.invariant (inside c.requires.0 c.loop-k-test.true) (part-is c.requires.0 c.loop-k-test.true c.wide-a.ensures.0
-      c.wide-e.ensures.0) c.count_column-total.auto.mark c.count_column-total.ensures),
-  λ h. absurd (omega arith),
+      (tot_kept c.requires.1 c.loop-k.invariant (inside c.requires.0 c.loop-k-test.true)
+      (part-is c.requires.0 c.loop-k-test.true c.wide-start.ensures.0 c.wide-end.ensures.0) c.count_column-total.auto.mark
+      c.count_column-total.ensures),
 )
 
 pub loop-k-preserved : goal.loop-k-preserved
 loop-k-preserved c = totting_turn c.requires.1 c.loop-k.invariant (inside c.requires.0 c.loop-k-test.true)
-    (part-is c.requires.0 c.loop-k-test.true c.wide-a.ensures.0 c.wide-e.ensures.0) c.count_column-total.auto.mark c.count_column-total.ensures
-    c.if-total-gt-MOST.false
-
-pub shape_of-mark : goal.shape_of-mark
-shape_of-mark c = c.loop-k.invariant.m_long ∙ sym (as_many c.requires.0 c.requires.2)
+    (part-is c.requires.0 c.loop-k-test.true c.wide-start.ensures.0 c.wide-end.ensures.0) c.count_column-total.auto.mark c.count_column-total.ensures
+    c.if-total-gt-MAX_ENTRIES.false
 
 pub returns : goal.returns
 returns c = let d = totting_done c.requires.1 c.loop-k.invariant (outside c.requires.0 c.loop-k-test.false) in
-    (d.0, kept-wider _ (few_columns c.requires.0) d.1, d.2)
+    (record { size = d.0; few = c.loop-k.invariant.few; are = d.2 }, kept-wider _ (few_columns c.requires.0) d.1)

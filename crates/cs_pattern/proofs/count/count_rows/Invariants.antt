@@ -1,12 +1,8 @@
 -- `count_rows` meets its contract. Assumes nothing.
-use Rattle.std.proofs.Common.{◌-◌}
 use Rattle.cs_tree.proofs.Bumping.{Totting}
 use Rattle.cs_pattern.specs.Columns.{columns}
-use Rattle.cs_matrix.specs.Matrix.{pattern}
+use Rattle.cs_pattern.specs.Lent.{square_of}
 use Rattle.cs_pattern.proofs.count.count_rows.Given as goal
 
 abbrev pub invariant-loop-k : goal.invariant-loop-k
-invariant-loop-k l = Totting (columns (pattern l.n l.n l.p l.i)) l.initial.counts l.mark l.counts l.total l.k
-
-abbrev pub decreases-loop-k : goal.decreases-loop-k
-decreases-loop-k l = l.n - l.k
+invariant-loop-k l = Totting (columns (square_of l.fn.a)) l.initial.counts l.mark l.counts l.total l.k

@@ -3,9 +3,9 @@ use Rattle.cs_pattern.proofs.Filled.{outline_asks, outlined}
 use Rattle.cs_pattern.proofs.fill.outline.Goals as goal
 
 pub count_rows-requires : goal.count_rows-requires
-count_rows-requires c = outline_asks c.requires.0 c.args.w1.now c.args.w2.now c.args.w3.now c.elimination_tree.new.anc c.requires.1 c.requires.2
-    c.requires.3 c.elimination_tree.ensures c.elimination_tree.auto.anc c.clear.ensures
+count_rows-requires c = outline_asks c.requires.0 _ _ _ _ c.requires.1 c.requires.2 c.requires.3 c.elimination_tree.ensures
+    c.elimination_tree.auto.anc c.fill.ensures
 
 pub returns : goal.returns
-returns c = outlined c.requires.0 c.args.w1.now c.args.w2.now c.args.w3.now c.elimination_tree.new.anc c.requires.1 c.requires.2 c.requires.3
-    c.elimination_tree.ensures c.elimination_tree.auto.anc c.clear.ensures c.count_rows.new.mark c.count_rows.auto.mark c.count_rows.ensures
+returns c = outlined c.requires.0 _ _ _ _ c.requires.1 c.requires.2 c.requires.3 c.elimination_tree.ensures c.elimination_tree.auto.anc
+    c.fill.ensures _ c.count_rows.auto.mark c.count_rows.ensures

@@ -1,32 +1,25 @@
 -- `look` meets its contract. Assumes nothing.
-use borrow.Author.Tests.{not-true}
 use Rattle.std.proofs.Common.{arith}
-use borrow.Author.Tests.{not-false}
 use Rattle.lists.proofs.Keeping.{kept-all}
-use Rattle.cs_pattern.proofs.Finding.{unseen, lp_long, lp_first, li_long, look_asks, look_unseen, look_told}
+use Rattle.cs_pattern.proofs.Finding.{unseen, lp_long, lp_first, li_long, look_unseen, look_told}
 use Rattle.cs_pattern.proofs.look.look.Goals as goal
+use Rattle.cs_pattern.proofs.look.look.Goals.{then-lp-n-via-then-lp-n, then-lp-n-via-else-lp-n+then-lp-ne0}
+use Rattle.cs_pattern.proofs.look.look.Goals.{then-lp-n-via-else-lp-n+else-lp-ne0+then-li-t}
 
 pub returns-then-lp-n : goal.returns-then-lp-n
-returns-then-lp-n c = unseen c.args.lp.now c.args.li.now (λ u h. omega (arith, c.if-lp-n.true, lp_long c.args.lp.now c.args.li.now u h))
+returns-then-lp-n c = unseen _ _
+    (elim c.then-lp-n.branch [
+      | then-lp-n-via-then-lp-n w ↦ λ u h. omega (arith, w.if-lp-n.true, lp_long _ _ u h)
+      | then-lp-n-via-else-lp-n+then-lp-ne0 w ↦ λ u h. w.if-lp-ne0.true (lp_first _ _ u h)
+      | then-lp-n-via-else-lp-n+else-lp-ne0+then-li-t w ↦ λ u h. omega (arith, w.if-li-t.true, li_long _ _ u h)
+    ])
     (kept-all _ _)
 
-pub returns-then-lp-ne0 : goal.returns-then-lp-ne0
-returns-then-lp-ne0 c = unseen c.args.lp.now c.args.li.now (λ u h. c.if-lp-ne0.true (lp_first c.args.lp.now c.args.li.now u h)) (kept-all _ _)
+pub returns-else-look_columns : goal.returns-else-look_columns
+returns-else-look_columns c = rw c.if-look_columns.false
+    (look_unseen _ _ _ _ _ _ _ c.requires.1 c.if-lp-n.false c.copy.ensures c.if-li-t.false _ c.look_columns.auto.next c.if-look_columns.false
+    c.look_columns.ensures.1)
 
-pub returns-then-li-t : goal.returns-then-li-t
-returns-then-li-t c = unseen c.args.lp.now c.args.li.now (λ u h. omega (arith, c.if-li-t.true, li_long c.args.lp.now c.args.li.now u h))
-    (kept-all _ _)
-
-pub look_columns-requires : goal.look_columns-requires
-look_columns-requires c = look_asks c.args.n c.args.t c.args.up.now c.args.ui.now c.args.lp.now c.args.li.now c.args.w.now c.requires.1
-    c.if-lp-n.false c.copy.ensures c.if-li-t.false c.requires.0
-
-pub returns-then-not-look_columns : goal.returns-then-not-look_columns
-returns-then-not-look_columns c = look_unseen c.args.n c.args.t c.args.up.now c.args.ui.now c.args.lp.now c.args.li.now c.args.w.now c.requires.1
-    c.if-lp-n.false c.copy.ensures c.if-li-t.false c.look_columns.new.next c.look_columns.auto.next (not-true _ c.if-not-look_columns.true-raw)
-    c.look_columns.ensures.1
-
-pub returns : goal.returns
-returns c = look_told c.args.n c.args.t c.args.up.now c.args.ui.now c.args.lp.now c.args.li.now c.args.w.now c.requires.1 c.if-lp-n.false
-    c.copy.ensures c.if-li-t.false c.look_columns.new.next c.look_columns.auto.next c.if-lp-ne0.false c.look_columns.ensures.0
-    (not-false _ c.if-not-look_columns.false-raw) c.starts_with.ensures
+pub returns-then-look_columns : goal.returns-then-look_columns
+returns-then-look_columns c = look_told _ _ _ _ _ _ _ c.requires.1 c.if-lp-n.false c.copy.ensures c.if-li-t.false _
+    c.look_columns.auto.next c.if-lp-ne0.false c.look_columns.ensures.0 c.if-look_columns.true c.starts_with.ensures

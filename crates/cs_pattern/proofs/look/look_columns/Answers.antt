@@ -1,9 +1,7 @@
 -- `look_columns` meets its contract. Assumes nothing.
-use borrow.Author.Tests.{not-true}
 use Rattle.cs_pattern.proofs.Finding.{lower-turn, lower_stop}
 use Rattle.cs_tree.proofs.Spreading.{columns-start}
-use Rattle.cs_tree.proofs.Looking.{seen_start, seen_order, seen_inside, seen_low, seen_turn, seen_done}
-use borrow.Author.Tests.{not-false}
+use Rattle.cs_tree.proofs.Looking.{seen_start, seen_order, seen_inside, seen_low, seen_turn}
 use Rattle.std.proofs.Common.{sym, ◌∙◌, true≢false, arith}
 use Rattle.cs_pattern.proofs.look.look_columns.Goals as goal
 
@@ -33,20 +31,14 @@ pub returns-then-not-look_column : goal.returns-then-not-look_column
 returns-then-not-look_column c = (
   λ z. absurd (true≢false (sym z)),
   λ z. lower_stop c.loop-k.invariant.2 c.loop-k-test.true c.wide-b.ensures.0
-      c.wide-f.ensures.0 c.look_column.ensures.1 (not-true _ c.if-not-look_column.true-raw),
+      c.wide-f.ensures.0 c.look_column.ensures.1 c.if-not-look_column.true,
 )
-
-pub loop-k-smaller : goal.loop-k-smaller
-loop-k-smaller c = omega (arith, c.loop-k-test.true)
 
 pub loop-k-preserved : goal.loop-k-preserved
 loop-k-preserved c = (
   c.look_column.auto.next ∙ c.loop-k.invariant.0,
   seen_turn c.loop-k.invariant.1 c.loop-k-test.true (omega (arith, c.loop-k.invariant.0)) c.wide-b.ensures.0 c.wide-f.ensures.0
-      (c.look_column.ensures.0 (not-false _ c.if-not-look_column.false-raw)),
+      (c.look_column.ensures.0 c.if-not-look_column.false),
   lower-turn c.loop-k.invariant.2 c.loop-k-test.true c.wide-b.ensures.0 c.wide-f.ensures.0 c.look_column.ensures.1
-      (not-false _ c.if-not-look_column.false-raw),
+      c.if-not-look_column.false,
 )
-
-pub returns : goal.returns
-returns c = (λ z. seen_done c.loop-k.invariant.1 c.loop-k-test.false, λ z. absurd (true≢false z))

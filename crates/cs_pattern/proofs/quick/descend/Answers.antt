@@ -1,61 +1,52 @@
 -- `descend` meets its contract. Assumes nothing.
 use Rattle.cs_tree.proofs.Aiming.{aiming_start, aiming_some, aiming_stops, aiming_low, aiming_parent, aiming_new, aiming_turn}
 use Rattle.lists.proofs.Bools.{not-both}
-use borrow.Author.Tests.{not-true}
-use Rattle.cs_tree.proofs.Backward.{descending_start, descending_turn, descending_found, not-read}
-use borrow.Author.Tests.{not-false}
-use Rattle.std.proofs.Common.{refl, arith}
+use Rattle.cs_tree.proofs.Backward.{descending_start, descending_turn, descending_found}
+use Rattle.std.proofs.Common.{refl, arith, rules}
 use Rattle.cs_pattern.proofs.quick.descend.Goals as goal
+use Rattle.cs_pattern.proofs.quick.descend.Goals.{then-b-k-via-then-b-k, then-b-k-via-else-b-k+then-par-j}
+use Rattle.cs_pattern.proofs.quick.descend.Goals.{then-b-k-via-else-b-k+else-par-j+then-mark-j}
 
-pub returns-then-t-eq0 : goal.returns-then-t-eq0
-returns-then-t-eq0 c = (not-read (omega arith), λ older g m d. absurd (omega (arith, aiming_some c.requires.0 d c.requires.2 g, c.if-t-eq0.true)))
-
-pub stops-requires : goal.stops-requires
-stops-requires c = c.requires.0
+pub returns-in_err-last : goal.returns-in_err-last
+returns-in_err-last c = rw c.from_residual.ensures
+    (tt, λ older g m d. absurd (omega (arith, aiming_some c.requires.0 d c.requires.2 g, c.in_err-last.ensures.item)))
 
 pub returns-then-not-stops : goal.returns-then-not-stops
 returns-then-not-stops c = (
-  not-read (omega arith),
-  λ older g m d. let s = aiming_stops c.requires.0 d c.requires.2 g refl refl in
-      absurd (not-both _ (c.stops.ensures.1 older g s.0 s.1) (not-true _ c.if-not-stops.true-raw)),
+  tt,
+  λ older g m d. let s = aiming_stops c.requires.0 d c.requires.2 g refl (search rules) in
+      absurd (not-both _ (c.stops.ensures.1 older g s.0 s.1) c.if-not-stops.true),
 )
-
-pub bounds-par-wide : goal.bounds-par-wide
-bounds-par-wide c = omega (arith, (c.stops.ensures.0 (not-false _ c.if-not-stops.false-raw)).low, c.requires.0.p_long, c.wide.ensures.0)
 
 pub loop-t-init : goal.loop-t-init
 loop-t-init c = (
-  descending_start c.requires.0 (c.stops.ensures.0 (not-false _ c.if-not-stops.false-raw)) c.wide.ensures.0 refl refl,
+  descending_start c.requires.0 (c.stops.ensures.0 c.if-not-stops.false) c.wide.ensures.0 refl refl,
   c.requires.1,
-  aiming_start c.requires.0 c.requires.2 refl c.wide.ensures.0 refl refl,
+  aiming_start c.requires.0 c.requires.2 (search rules) c.wide.ensures.0 refl refl,
 )
 
 pub returns-then-b-k : goal.returns-then-b-k
 returns-then-b-k c = (
-  not-read (omega arith),
-  λ older g m d. absurd (omega (arith, c.if-b-k.true, aiming_low c.loop-t.invariant.0 c.loop-t.invariant.2 c.loop-t-test.true g d)),
-)
-
-pub returns-then-par-j : goal.returns-then-par-j
-returns-then-par-j c = (
-  not-read (omega arith),
-  λ older g m d. absurd (c.if-par-j.true (aiming_parent c.loop-t.invariant.0 c.loop-t.invariant.2 c.loop-t-test.true g d c.wide-j.ensures.0)),
-)
-
-pub returns-then-mark-j : goal.returns-then-mark-j
-returns-then-mark-j c = (
-  not-read (omega arith),
-  λ older g m d. absurd (aiming_new c.loop-t.invariant.0 c.loop-t.invariant.2 c.loop-t-test.true g d c.wide-j.ensures.0 c.if-mark-j.true),
+  tt,
+  λ older g m d. absurd (elim c.then-b-k.branch [
+    | then-b-k-via-then-b-k w ↦
+        omega (arith, w.if-b-k.true, aiming_low c.loop-t.invariant.0 c.loop-t.invariant.2 c.loop-t-test.true g d)
+    | then-b-k-via-else-b-k+then-par-j w ↦
+        w.if-par-j.true (aiming_parent c.loop-t.invariant.0 c.loop-t.invariant.2 c.loop-t-test.true g d c.wide-j.ensures.0)
+    | then-b-k-via-else-b-k+else-par-j+then-mark-j w ↦
+        aiming_new c.loop-t.invariant.0 c.loop-t.invariant.2 c.loop-t-test.true g d c.wide-j.ensures.0 w.if-mark-j.true
+  ]),
 )
 
 pub returns-then-b-row : goal.returns-then-b-row
 returns-then-b-row c = (
-  descending_found c.loop-t.invariant.0 c.loop-t-test.true refl c.if-b-k.false c.wide-j.ensures.0 c.if-par-j.false c.if-mark-j.false c.if-b-row.true,
-  λ older g m d. omega (arith, c.loop-t.invariant.0.within),
+  (
+    omega (arith, c.loop-t.invariant.0.within),
+    λ older m. descending_found c.loop-t.invariant.0 c.loop-t-test.true refl c.if-b-k.false c.wide-j.ensures.0 c.if-par-j.false c.if-mark-j.false
+        c.if-b-row.true older m (omega (arith, c.loop-t.invariant.0.within)),
+  ),
+  λ older g m d. refl,
 )
-
-pub loop-t-smaller : goal.loop-t-smaller
-loop-t-smaller c = omega (arith, c.loop-t-test.true)
 
 pub loop-t-preserved : goal.loop-t-preserved
 loop-t-preserved c = (
@@ -63,6 +54,3 @@ loop-t-preserved c = (
   c.loop-t.invariant.1,
   aiming_turn c.loop-t.invariant.0 c.loop-t.invariant.2 c.loop-t-test.true refl c.if-b-row.false,
 )
-
-pub returns : goal.returns
-returns c = (not-read (omega arith), λ older g m d. absurd (omega (arith, (c.loop-t.invariant.2.tells older g m d).0, c.loop-t-test.false)))

@@ -7,6 +7,3 @@ use Rattle.cs_pattern.proofs.quick.descend.Given as goal
 abbrev pub invariant-loop-t : goal.invariant-loop-t
 invariant-loop-t l = Descending l.k l.par l.held l.initial.mark l.mark l.above l.t × (length l.held < 2 ^ 32) ×
     Aiming l.k l.par l.row l.held l.initial.mark l.above l.t
-
-abbrev pub decreases-loop-t : goal.decreases-loop-t
-decreases-loop-t l = l.t

@@ -1,41 +1,24 @@
 -- `read_upper` meets its contract. Assumes nothing.
-use borrow.Author.Tests.{not-true}
 use Rattle.std.proofs.Common.{arith}
-use borrow.Author.Tests.{not-false}
-use Rattle.lists.proofs.Laying.{part_long}
 use Rattle.lists.proofs.Keeping.{kept-all}
-use Rattle.cs_pattern.proofs.Deciding.{untold, up-short, up_many, tree_untold, read_asks, told}
+use Rattle.cs_pattern.proofs.Deciding.{untold, up-short, up_many, read_asks, told}
 use Rattle.cs_pattern.proofs.quick.read_upper.Goals as goal
+use Rattle.cs_pattern.proofs.quick.read_upper.Goals.{then-up-n-via-then-up-n, then-up-n-via-else-up-n+then-wide-gt-MAX_ENTRIES}
 
 pub returns-then-up-n : goal.returns-then-up-n
-returns-then-up-n c = untold c.requires.0 c.args.tree.now c.args.up.now c.args.ui.now
-    (up-short c.requires.0 c.args.tree.now c.args.up.now c.args.ui.now c.if-up-n.true) (kept-all _ _) (kept-all _ _)
-
-pub returns-then-wide-gt-MOST : goal.returns-then-wide-gt-MOST
-returns-then-wide-gt-MOST c = untold c.requires.0 c.args.tree.now c.args.up.now c.args.ui.now
-    (up_many c.requires.0 c.args.tree.now c.args.up.now c.args.ui.now (omega (arith, c.if-wide-gt-MOST.true, c.wide.ensures.0))) (kept-all _ _)
-    (kept-all _ _)
-
-pub elimination_tree-requires : goal.elimination_tree-requires
-elimination_tree-requires c = (c.requires.0, part_long _ _ c.requires.1, part_long _ _ c.requires.2)
-
-pub starts_with-requires : goal.starts_with-requires
-starts_with-requires c = tt
-
-pub returns-then-not-starts_with : goal.returns-then-not-starts_with
-returns-then-not-starts_with c = tree_untold c.requires.0 c.args.tree.now c.args.up.now c.args.ui.now c.args.w1.now c.args.w2.now
-    c.elimination_tree.new.anc c.requires.1 c.requires.2 c.elimination_tree.ensures c.elimination_tree.auto.anc c.starts_with.ensures
-    (not-true _ c.if-not-starts_with.true-raw)
-
-pub clear-requires : goal.clear-requires
-clear-requires c = tt
+returns-then-up-n c = untold c.requires.0 _ _ _
+    (elim c.then-up-n.branch [
+      | then-up-n-via-then-up-n w ↦ up-short c.requires.0 _ _ _ w.if-up-n.true
+      | then-up-n-via-else-up-n+then-wide-gt-MAX_ENTRIES w ↦
+          up_many c.requires.0 _ _ _ (omega (arith, w.if-wide-gt-MAX_ENTRIES.true, w.wide.ensures.0))
+    ])
+    (kept-all _ _) (kept-all _ _)
 
 pub read_columns-requires : goal.read_columns-requires
-read_columns-requires c = read_asks c.requires.0 c.args.tree.now c.args.up.now c.args.ui.now c.args.w1.now c.args.w2.now c.elimination_tree.new.anc
-    c.requires.1 c.requires.2 c.elimination_tree.ensures c.elimination_tree.auto.anc c.clear.ensures c.if-up-n.false
+read_columns-requires c = read_asks c.requires.0 c.args.given.tree.now _ c.args.given.ui.now _ _ _ c.requires.1 c.requires.2
+    c.elimination_tree.ensures c.elimination_tree.auto.anc c.fill.ensures c.if-up-n.false
 
 pub returns : goal.returns
-returns c = told c.requires.0 c.args.tree.now c.args.up.now c.args.ui.now c.args.w1.now c.args.w2.now c.elimination_tree.new.anc c.requires.1
-    c.requires.2 c.elimination_tree.ensures c.elimination_tree.auto.anc c.starts_with.ensures c.clear.ensures c.read_columns.new.mark
-    (not-false _ c.if-not-starts_with.false-raw) c.read_columns.auto.mark (omega (arith, c.if-wide-gt-MOST.false, c.wide.ensures.0))
-    c.read_columns.ensures
+returns c = told c.requires.0 _ _ _ _ _ _ c.requires.1 c.requires.2 c.elimination_tree.ensures c.elimination_tree.auto.anc
+    c.starts_with.ensures c.fill.ensures _ c.if-not-starts_with.false c.read_columns.auto.mark
+    (omega (arith, c.if-wide-gt-MAX_ENTRIES.false, c.wide.ensures.0)) c.read_columns.ensures

@@ -1,36 +1,23 @@
 -- `elimination_tree` meets its contract. Assumes nothing.
 use Rattle.cs_pattern.proofs.Columns.{columns_fit, columns_long, here, part-is, part-rises}
-use Rattle.std.proofs.Common.{sym, ◌∙◌}
-use Rattle.cs_tree.proofs.Growing.{growing_start, growing_asks, growing_turn, growing_done, par_long, anc_long}
+use Rattle.cs_tree.proofs.Growing.{growing_start, growing_asks, growing_turn, growing_done}
 use Rattle.cs_pattern.proofs.tree.elimination_tree.Goals as goal
 
 pub loop-k-init : goal.loop-k-init
 loop-k-init c = growing_start _ _ _ (columns_fit c.requires.0) (columns_long c.requires.0) c.requires.1 c.requires.2 c.fill.ensures c.fill-2.ensures
 
-pub slice_bounds-tree_column-count : goal.slice_bounds-tree_column-count
-slice_bounds-tree_column-count c = (here c.requires.0 c.loop-k-test.true c.wide-a.ensures.0 c.wide-e.ensures.0).order
-
-pub slice_bounds-tree_column-start : goal.slice_bounds-tree_column-start
-slice_bounds-tree_column-start c = (here c.requires.0 c.loop-k-test.true c.wide-a.ensures.0 c.wide-e.ensures.0).order
-
 pub slice_bounds-tree_column-end : goal.slice_bounds-tree_column-end
-slice_bounds-tree_column-end c = (here c.requires.0 c.loop-k-test.true c.wide-a.ensures.0 c.wide-e.ensures.0).inside
+slice_bounds-tree_column-end c = (here c.requires.0 c.loop-k-test.true c.wide-start.ensures.0 c.wide-end.ensures.0).inside
 
 pub tree_column-requires : goal.tree_column-requires
 tree_column-requires c = (
   growing_asks c.loop-k.invariant (rw (← columns_long c.requires.0) c.loop-k-test.true),
-  part-rises c.requires.0 c.loop-k-test.true c.wide-a.ensures.0 c.wide-e.ensures.0,
+  part-rises c.requires.0 c.loop-k-test.true c.wide-start.ensures.0 c.wide-end.ensures.0,
 )
 
 pub loop-k-preserved : goal.loop-k-preserved
 loop-k-preserved c = growing_turn c.loop-k.invariant (rw (← columns_long c.requires.0) c.loop-k-test.true)
-    (part-is c.requires.0 c.loop-k-test.true c.wide-a.ensures.0 c.wide-e.ensures.0) c.tree_column.ensures
-
-pub shape_of-par : goal.shape_of-par
-shape_of-par c = par_long c.loop-k.invariant ∙ sym (c.requires.1 ∙ columns_long c.requires.0)
-
-pub shape_of-anc : goal.shape_of-anc
-shape_of-anc c = anc_long c.loop-k.invariant ∙ sym (c.requires.2 ∙ columns_long c.requires.0)
+    (part-is c.requires.0 c.loop-k-test.true c.wide-start.ensures.0 c.wide-end.ensures.0) c.tree_column.ensures
 
 pub returns : goal.returns
 returns c = growing_done c.loop-k.invariant (rw (← columns_long c.requires.0) c.loop-k-test.false)

@@ -1,12 +1,8 @@
 -- `elimination_tree` meets its contract. Assumes nothing.
-use Rattle.std.proofs.Common.{◌-◌}
 use Rattle.cs_tree.proofs.Growing.{Growing}
 use Rattle.cs_pattern.specs.Columns.{columns}
-use Rattle.cs_matrix.specs.Matrix.{pattern}
+use Rattle.cs_pattern.specs.Lent.{square_of}
 use Rattle.cs_pattern.proofs.tree.elimination_tree.Given as goal
 
 abbrev pub invariant-loop-k : goal.invariant-loop-k
-invariant-loop-k l = Growing (columns (pattern l.n l.n l.p l.i)) l.par l.anc l.k
-
-abbrev pub decreases-loop-k : goal.decreases-loop-k
-decreases-loop-k l = l.n - l.k
+invariant-loop-k l = Growing (columns (square_of l.fn.a)) l.par l.anc l.k

@@ -1,6 +1,6 @@
 -- `tree_column` meets its contract. Assumes nothing.
 use Rattle.cs_tree.proofs.Climbing.{Climbing, Rows}
-use Rattle.std.proofs.Common.{◌-◌, length}
+use Rattle.std.proofs.Common.{◌-◌}
 use Rattle.cs_pattern.proofs.tree.tree_column.Given as goal
 
 abbrev pub invariant-climb : goal.invariant-climb
@@ -9,8 +9,5 @@ invariant-climb l = Climbing l.k l.initial.par l.initial.anc l.par l.anc l.initi
 abbrev pub decreases-climb : goal.decreases-climb
 decreases-climb l = l.k - l.i
 
-abbrev pub invariant-loop-q : goal.invariant-loop-q
-invariant-loop-q l = Rows l.k l.rows l.initial.par l.initial.anc l.par l.anc l.q
-
-abbrev pub decreases-loop-q : goal.decreases-loop-q
-decreases-loop-q l = length l.rows - l.q
+abbrev pub invariant-loop-row : goal.invariant-loop-row
+invariant-loop-row l = Rows l.k l.rows l.initial.par l.initial.anc l.par l.anc l.row-index

@@ -1,12 +1,9 @@
 -- `fill_columns` meets its contract. Assumes nothing.
 use Rattle.cs_tree.proofs.Falling.{Falling}
 use Rattle.cs_pattern.specs.Columns.{columns}
-use Rattle.cs_matrix.specs.Matrix.{pattern}
+use Rattle.cs_pattern.specs.Lent.{square_of}
 use Rattle.cs_pattern.proofs.upper.fill_columns.Given as goal
 
 abbrev pub invariant-loop-k : goal.invariant-loop-k
-invariant-loop-k l = Falling (columns (pattern l.n l.n l.p l.i)) l.initial.up l.initial.ui l.initial.next l.initial.li l.mark l.up l.ui l.next l.li
+invariant-loop-k l = Falling (columns (square_of l.fn.a)) l.initial.up l.initial.ui l.initial.next l.initial.li l.mark l.up l.ui l.next l.li
     l.top l.k
-
-abbrev pub decreases-loop-k : goal.decreases-loop-k
-decreases-loop-k l = l.k

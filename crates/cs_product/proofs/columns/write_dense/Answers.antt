@@ -2,9 +2,6 @@
 use Rattle.cs_product.proofs.Sweeping.{dense_asks, dense_written}
 use Rattle.cs_product.proofs.columns.write_dense.Goals as goal
 
-pub accumulate_plain-requires : goal.accumulate_plain-requires
-accumulate_plain-requires c = c.requires.plain
-
 pub sweep-requires : goal.sweep-requires
 sweep-requires c = dense_asks c.requires c.accumulate_plain.ensures c.accumulate_plain.auto.x
 

@@ -1,34 +1,18 @@
 -- `add_rows`: the loop of lists/proofs/Entries.antt. Assumes nothing.
-use native.Mathlib.Omega.{arith}
-use Rattle.lists.proofs.Entries.{passing_start, passing_row, passing_value, passing_end, plus_turn}
+use Rattle.std.proofs.Common.{rules, arith, length-append, ◌∙◌}
+use Rattle.std.proofs.lemmas.Slice.Zip.{zip_turn, zip_end}
+use lib.Ieee.{nan}
+use Rattle.lists.proofs.Entries.{passing_end, plus_turn}
 use Rattle.cs_product.proofs.plain.add_rows.Goals as goal
 
-pub loop-k-init : goal.loop-k-init
-loop-k-init c = passing_start _ c.requires
-
-pub bounds-rows-k : goal.bounds-rows-k
-bounds-rows-k c = c.loop-k-test.true
-
-pub wide-r-requires : goal.wide-r-requires
-wide-r-requires c = tt
-
-pub bounds-x-r : goal.bounds-x-r
-bounds-x-r c = passing_row c.loop-k.invariant c.loop-k-test.true c.wide-r.ensures.0
-
-pub bounds-vals-k : goal.bounds-vals-k
-bounds-vals-k c = passing_value c.loop-k.invariant c.loop-k-test.true
-
-pub bounds-x-r-in-loop-k : goal.bounds-x-r-in-loop-k
-bounds-x-r-in-loop-k c = passing_row c.loop-k.invariant c.loop-k-test.true c.wide-r.ensures.0
-
-pub loop-k-smaller : goal.loop-k-smaller
-loop-k-smaller c = omega (arith, c.loop-k-test.true)
-
-pub loop-k-preserved : goal.loop-k-preserved
-loop-k-preserved c = plus_turn _ c.loop-k.invariant c.loop-k-test.true c.wide-r.ensures.0
-
-pub shape_of-x : goal.shape_of-x
-shape_of-x c = c.loop-k.invariant.long
+pub loop-row-preserved : goal.loop-row-preserved
+loop-row-preserved c =
+    let t = zip_turn c.args.rows.now c.args.vals.now _ _ _ c.next.new.self _
+    (search rules) (search rules) c.loop-row.yielded_by _ c.in-Some.is c.next.ensures.steps in
+    rw (length-append, t.3 nan) (plus_turn _ c.loop-row.invariant t.0 (c.wide-r.ensures.0 ∙ t.2 0))
 
 pub returns : goal.returns
-returns c = passing_end c.loop-k.invariant c.loop-k-test.false
+returns c =
+    let n = zip_end c.args.rows.now c.args.vals.now _ _ _ c.next.new.self _
+    (search rules) (search rules) c.loop-row.yielded_by c.in-None.is c.next.ensures.steps in
+    passing_end c.loop-row.invariant (omega arith)

@@ -1,11 +1,8 @@
 -- `fill`: the loop of proofs/Produced.antt. Assumes nothing.
-use Prim.Native.Nat.{◌-◌}
+use Rattle.cs_matrix.specs.Lent.{matrix_of}
 use Rattle.cs_product.proofs.Produced.{Writing}
 use Rattle.cs_product.proofs.product.fill.Given as goal
 
 abbrev pub invariant-loop-j : goal.invariant-loop-j
-invariant-loop-j l = Writing l.nrows l.ncols l.ap l.ai l.av l.bncols l.bp l.bi l.bv l.initial.op l.initial.oi l.initial.ov l.mark l.met l.spare l.x
+invariant-loop-j l = Writing (matrix_of l.a) (matrix_of l.b) l.initial.op l.initial.oi l.initial.ov l.mark l.met l.spare l.x
     l.op l.oi l.ov l.at l.j
-
-abbrev pub decreases-loop-j : goal.decreases-loop-j
-decreases-loop-j l = l.bncols - l.j

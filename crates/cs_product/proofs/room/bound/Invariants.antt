@@ -1,10 +1,7 @@
 -- `bound`: the loop of proofs/Produced.antt. Assumes nothing.
-use Prim.Native.Nat.{◌-◌}
+use Rattle.cs_matrix.specs.Lent.{matrix_of}
 use Rattle.cs_product.proofs.Produced.{Bounding}
 use Rattle.cs_product.proofs.room.bound.Given as goal
 
 abbrev pub invariant-loop-j : goal.invariant-loop-j
-invariant-loop-j l = Bounding l.nrows l.ncols l.ap l.ai l.av l.bncols l.bp l.bi l.bv l.most l.j
-
-abbrev pub decreases-loop-j : goal.decreases-loop-j
-decreases-loop-j l = l.bncols - l.j
+invariant-loop-j l = Bounding (matrix_of l.a) (matrix_of l.b) l.most l.j

@@ -1,33 +1,18 @@
 -- `sweep`: the loop of proofs/Sweeping.antt. Assumes nothing.
 use native.Mathlib.Omega.{arith}
-use Rattle.cs_product.proofs.Sweeping.{sweeping_start, sweeping_small, sweeping_i, sweeping_v, sweeping_on, sweeping_off, sweeping_done, at-in_i}
-use Rattle.cs_product.proofs.Sweeping.{at-in_v, r_in, r_small}
+use Rattle.cs_product.proofs.Sweeping.{sweeping_start, sweeping_small, sweeping_on, sweeping_off, sweeping_done, at-in_i}
+use Rattle.cs_product.proofs.Sweeping.{at-in_v}
 use Rattle.cs_product.proofs.sweep.sweep.Goals as goal
 use Rattle.cs_product.proofs.sweep.sweep.Goals.{else-x-r, then-x-r}
 
 pub loop-r-init : goal.loop-r-init
 loop-r-init c = sweeping_start _ _ _ _ c.requires
 
-pub offset_bounds-x-r : goal.offset_bounds-x-r
-offset_bounds-x-r c = omega (arith, r_small _ _ _ _ c.loop-r.invariant c.loop-r-test.true)
-
-pub bounds-x-r : goal.bounds-x-r
-bounds-x-r c = r_in _ _ _ _ c.loop-r.invariant c.loop-r-test.true
-
-pub overflow_cast-oi : goal.overflow_cast-oi
-overflow_cast-oi c = omega (arith, r_small _ _ _ _ c.loop-r.invariant c.loop-r-test.true)
-
 pub offset_bounds-oi-at : goal.offset_bounds-oi-at
 offset_bounds-oi-at c = omega (arith, sweeping_small _ _ _ _ c.loop-r.invariant)
 
 pub bounds-oi-at : goal.bounds-oi-at
 bounds-oi-at c = at-in_i _ _ _ _ c.loop-r.invariant c.loop-r-test.true c.if-x-r.true
-
-pub offset_bounds-x-r-then-x-r : goal.offset_bounds-x-r-then-x-r
-offset_bounds-x-r-then-x-r c = omega (arith, r_small _ _ _ _ c.loop-r.invariant c.loop-r-test.true)
-
-pub bounds-x-r-then-x-r : goal.bounds-x-r-then-x-r
-bounds-x-r-then-x-r c = r_in _ _ _ _ c.loop-r.invariant c.loop-r-test.true
 
 pub offset_bounds-ov-at : goal.offset_bounds-ov-at
 offset_bounds-ov-at c = omega (arith, sweeping_small _ _ _ _ c.loop-r.invariant)
@@ -38,18 +23,6 @@ bounds-ov-at c = at-in_v _ _ _ _ c.loop-r.invariant c.loop-r-test.true c.if-x-r.
 pub overflow_add-at : goal.overflow_add-at
 overflow_add-at c = let h = sweeping_small _ _ _ _ c.loop-r.invariant in record { fits = omega arith }
 
-pub offset_bounds-x-r-in-loop-r : goal.offset_bounds-x-r-in-loop-r
-offset_bounds-x-r-in-loop-r c = omega (arith, r_small _ _ _ _ c.loop-r.invariant c.loop-r-test.true)
-
-pub bounds-x-r-in-loop-r : goal.bounds-x-r-in-loop-r
-bounds-x-r-in-loop-r c = r_in _ _ _ _ c.loop-r.invariant c.loop-r-test.true
-
-pub overflow_step-r : goal.overflow_step-r
-overflow_step-r c = let h = r_small _ _ _ _ c.loop-r.invariant c.loop-r-test.true in record { fits = omega arith }
-
-pub loop-r-smaller : goal.loop-r-smaller
-loop-r-smaller c = omega (arith, c.loop-r-test.true)
-
 pub loop-r-preserved : goal.loop-r-preserved
 loop-r-preserved c = elim c.if-x-r.branch [
   | then-x-r t ↦
@@ -57,15 +30,6 @@ loop-r-preserved c = elim c.if-x-r.branch [
   | else-x-r t ↦
       rw (t.oi-is, t.ov-is, t.at-is) (sweeping_off _ _ _ _ c.loop-r.invariant c.loop-r-test.true t.if-x-r.false)
 ]
-
-pub shape_of-x : goal.shape_of-x
-shape_of-x c = c.loop-r.invariant.long
-
-pub shape_of-oi : goal.shape_of-oi
-shape_of-oi c = sweeping_i _ _ _ _ c.loop-r.invariant
-
-pub shape_of-ov : goal.shape_of-ov
-shape_of-ov c = sweeping_v _ _ _ _ c.loop-r.invariant
 
 pub returns : goal.returns
 returns c = sweeping_done _ _ _ _ c.loop-r.invariant c.loop-r-test.false

@@ -1,24 +1,26 @@
--- `value_at`: the walk of proofs/Diagonals.antt. Assumes nothing.
-use mathlib.Core.Path.{sym, ◌∙◌}
-use mathlib.Core.Logic.{inl, inr}
-use native.Mathlib.Omega.{arith}
-use Rattle.cs_solve.proofs.Diagonals.{looking_start, looking_found, looking_turn, looking_end}
+-- `value_at`: what is left of the rows and values has the value that all of them have. Assumes nothing.
+use Rattle.std.proofs.Common.{arith, sym, ◌∙◌}
+use Rattle.std.proofs.lemmas.Bool.Decides.{nat_tests}
+use Rattle.std.proofs.lemmas.Slice.Zip.{Zip-more, either_empty_from_Zip}
+use Rattle.cs_matrix.specs.Matrix.{value_at}
+use Rattle.cs_solve.proofs.Sides.{value_at_ended}
 use Rattle.cs_solve.proofs.diagonal.value_at.Goals as goal
 
-pub loop-k-init : goal.loop-k-init
-loop-k-init c = looking_start _ _ _
-
 pub returns-then-wide-j : goal.returns-then-wide-j
-returns-then-wide-j c = looking_found _ _ _ c.loop-k.invariant c.loop-k-test.true c.if-k-vals.true (sym c.wide.ensures.0 ∙ c.if-wide-j.true)
+unfolding value_at
+returns-then-wide-j c =
+    let m = Zip-more c.loop-row.row-iterator c.next.new.self _ _ c.in-Some.is c.next.ensures.steps in
+    let e = rw (m.0, m.1) at c.loop-row.invariant in
+    grind (arith, nat_tests, e)
 
-pub loop-k-smaller : goal.loop-k-smaller
-loop-k-smaller c = omega (arith, c.loop-k-test.true)
+pub loop-row-preserved : goal.loop-row-preserved
+unfolding value_at
+loop-row-preserved c =
+    let m = Zip-more c.loop-row.row-iterator c.next.new.self _ _ c.in-Some.is c.next.ensures.steps in
+    let e = rw (m.0, m.1) at c.loop-row.invariant in
+    grind (arith, nat_tests, e)
 
-pub loop-k-preserved : goal.loop-k-preserved
-loop-k-preserved c = looking_turn _ _ _ c.loop-k.invariant c.loop-k-test.true c.if-k-vals.true (λ q. c.if-wide-j.false (c.wide.ensures.0 ∙ q))
-
-pub returns-else-k-vals : goal.returns-else-k-vals
-returns-else-k-vals c = looking_end _ _ _ c.loop-k.invariant (inr c.if-k-vals.false)
-
-pub returns-after-loop-k : goal.returns-after-loop-k
-returns-after-loop-k c = looking_end _ _ _ c.loop-k.invariant (inl c.loop-k-test.false)
+pub returns : goal.returns
+returns c =
+    let h = either_empty_from_Zip c.loop-row.row-iterator c.next.new.self _ c.in-None.is c.next.ensures.steps in
+    sym (c.loop-row.invariant ∙ value_at_ended _ _ _ h)

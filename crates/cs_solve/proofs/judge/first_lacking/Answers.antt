@@ -1,46 +1,15 @@
--- `first_lacking`: the walk that looks for the first. Assumes nothing.
-use native.Mathlib.Omega.{arith}
-use Rattle.cs_solve.proofs.Diagonals.{lacking-is}
-use Rattle.lists.proofs.Choices.{upward_start, upward_turn, upward_found, upward_end}
+-- `first_lacking`: `find` of proofs/Searching.antt, rising. Assumes nothing.
+use Rattle.std.proofs.Common.{rules, arith}
+use Rattle.std.proofs.lemmas.Iterator.{YieldsList-from_range}
+use Rattle.std.proofs.lemmas.Iterator.Search.{find_from_yields_List}
+use borrow.Author.Tests.{tests}
+use Rattle.cs_matrix.specs.Lent.{matrix_of}
+use Rattle.cs_solve.specs.Diagonal.{lacking}
 use Rattle.cs_solve.specs.Judge.{lacking_columns}
-use Rattle.cs_solve.proofs.Columns.{handed, diagonal-is}
+use Rattle.cs_solve.proofs.Searching.{first_found}
 use Rattle.cs_solve.proofs.judge.first_lacking.Goals as goal
-
-pub loop-j-init : goal.loop-j-init
-loop-j-init c = upward_start _ _
-
-pub slice_bounds-value_at-count : goal.slice_bounds-value_at-count
-slice_bounds-value_at-count c = (handed c.requires c.loop-j-test.true c.wide-a.ensures.0 c.wide-e.ensures.0).order
-
-pub slice_bounds-value_at-start : goal.slice_bounds-value_at-start
-slice_bounds-value_at-start c = (handed c.requires c.loop-j-test.true c.wide-a.ensures.0 c.wide-e.ensures.0).order
-
-pub slice_bounds-value_at-end : goal.slice_bounds-value_at-end
-slice_bounds-value_at-end c = (handed c.requires c.loop-j-test.true c.wide-a.ensures.0 c.wide-e.ensures.0).inside
-
-pub slice_bounds-value_at-count-in-loop-j : goal.slice_bounds-value_at-count-in-loop-j
-slice_bounds-value_at-count-in-loop-j c = (handed c.requires c.loop-j-test.true c.wide-a.ensures.0 c.wide-e.ensures.0).order
-
-pub slice_bounds-value_at-start-in-loop-j : goal.slice_bounds-value_at-start-in-loop-j
-slice_bounds-value_at-start-in-loop-j c = (handed c.requires c.loop-j-test.true c.wide-a.ensures.0 c.wide-e.ensures.0).order
-
-pub slice_bounds-value_at-end-in-loop-j : goal.slice_bounds-value_at-end-in-loop-j
-slice_bounds-value_at-end-in-loop-j c = (handed c.requires c.loop-j-test.true c.wide-a.ensures.0 c.wide-e.ensures.0).inside_v
-
-pub returns-then-value_at : goal.returns-then-value_at
-unfolding lacking_columns
-returns-then-value_at c = upward_found c.loop-j.invariant c.loop-j-test.true
-    (lacking-is _ _ (diagonal-is _ _ (handed c.requires c.loop-j-test.true c.wide-a.ensures.0 c.wide-e.ensures.0) c.value_at.ensures)
-    c.if-value_at.true)
-
-pub loop-j-smaller : goal.loop-j-smaller
-loop-j-smaller c = omega (arith, c.loop-j-test.true)
-
-pub loop-j-preserved : goal.loop-j-preserved
-loop-j-preserved c = upward_turn c.loop-j.invariant c.loop-j-test.true
-    (lacking-is _ _ (diagonal-is _ _ (handed c.requires c.loop-j-test.true c.wide-a.ensures.0 c.wide-e.ensures.0) c.value_at.ensures)
-    c.if-value_at.false)
 
 pub returns : goal.returns
 unfolding lacking_columns
-returns c = upward_end c.loop-j.invariant c.loop-j-test.false
+returns c = first_found _ _ _ (find_from_yields_List (lacking (matrix_of c.args.a)) _ _ c.find.result c.find.ensures.ran
+    (YieldsList-from_range 0 c.args.a.pattern.ncols c.args.a.pattern.ncols (search rules) (omega arith)) (λ x b q k. search (rules, tests)))

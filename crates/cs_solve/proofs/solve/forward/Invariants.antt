@@ -1,10 +1,7 @@
 -- `forward`: the loop of proofs/Turns.antt. Assumes nothing.
-use Prim.Native.Nat.{◌-◌}
+use Rattle.cs_matrix.specs.Lent.{matrix_of}
 use Rattle.cs_solve.proofs.Turns.{Forwarding}
 use Rattle.cs_solve.proofs.solve.forward.Given as goal
 
 abbrev pub invariant-loop-j : goal.invariant-loop-j
-invariant-loop-j l = Forwarding l.n l.p l.i l.v l.initial.b l.b l.j
-
-abbrev pub decreases-loop-j : goal.decreases-loop-j
-decreases-loop-j l = l.n - l.j
+invariant-loop-j l = Forwarding (matrix_of l.a) l.initial.b l.b l.j

@@ -1,11 +1,8 @@
--- `lower_rows`: the loop of proofs/Steps.antt. Assumes nothing.
-use Prim.Native.Nat.{◌-◌}
-use lib.ListN.{length}
-use Rattle.cs_solve.proofs.Steps.{Lowering}
+-- `lower_rows`: two slices side by side, of cs_solve/proofs/Sides.antt. Assumes nothing.
+use Rattle.std.proofs.Common.{take}
+use Rattle.cs_solve.specs.Solve.{lower_at}
+use Rattle.cs_solve.proofs.Sides.{Left}
 use Rattle.cs_solve.proofs.solve.lower_rows.Given as goal
 
-abbrev pub invariant-loop-k : goal.invariant-loop-k
-invariant-loop-k l = Lowering l.j l.x l.rows l.vals l.initial.b l.b l.k
-
-abbrev pub decreases-loop-k : goal.decreases-loop-k
-decreases-loop-k l = length l.rows - l.k
+abbrev pub invariant-loop-row : goal.invariant-loop-row
+invariant-loop-row l = Left (lower_at l.j l.x) (take l.n l.rows) (take l.n l.vals) l.initial.b l.row-iterator l.b

@@ -1,31 +1,23 @@
 -- `solve_lower_triangular`: the ways out of proofs/Ways.antt. Assumes nothing.
-use native.Mathlib.Omega.{arith}
-use Rattle.cs_solve.specs.Solve.{forward, forward_column}
-use Rattle.cs_solve.specs.Judge.{lacking_columns}
-use Rattle.cs_solve.specs.Diagonal.{diagonal, lacking}
+use Rattle.std.proofs.Common.{arith, refl}
+use Rattle.lists.proofs.Refusals.{refusal-some}
 use Rattle.cs_solve.proofs.Ways.{passed, at_check, at_10, at-end}
 use Rattle.cs_solve.proofs.solve.solve_lower_triangular.Goals as goal
 
-pub returns-then-refused-ne0 : goal.returns-then-refused-ne0
-returns-then-refused-ne0 c = at_check _ _ _ _ c.judge-refused.ensures c.if-refused-ne0.true
+pub returns-in-Err : goal.returns-in-Err
+returns-in-Err c = rw c.refused.ensures (at_check _ _ _ _ c.in-Err.ensures (refusal-some _))
 
-pub first_lacking-lacking-requires : goal.first_lacking-lacking-requires
-first_lacking-lacking-requires c = (passed _ _ _ _ _ _ c.judge-refused.ensures c.if-refused-ne0.false).square
+pub first_lacking-requires : goal.first_lacking-requires
+first_lacking-requires c = (passed _ _ c.in_default.ensures refl).valid
 
-pub overflow_cast-result : goal.overflow_cast-result
-overflow_cast-result c = omega (
-  arith,
-  c.if-lacking-ncols.true,
-  (passed _ _ _ _ _ _ c.judge-refused.ensures c.if-refused-ne0.false).square.pattern.cols,
-)
+pub overflow_cast-column : goal.overflow_cast-column
+overflow_cast-column c = omega (arith, c.in-Some.ensures.2, (passed _ _ c.in_default.ensures refl).valid.pattern.cols)
 
-pub returns-then-lacking-ncols : goal.returns-then-lacking-ncols
-unfolding forward forward_column diagonal lacking_columns lacking
-returns-then-lacking-ncols c = at_10 _ _ _ _ c.judge-refused.ensures c.if-refused-ne0.false c.first_lacking-lacking.ensures c.if-lacking-ncols.true
+pub returns-in-Some : goal.returns-in-Some
+returns-in-Some c = rw c.lacking.ensures (at_10 _ _ _ _ c.in_default.ensures refl c.in-Some.ensures.0 c.in-Some.ensures.1)
 
 pub forward-requires : goal.forward-requires
-forward-requires c = let q = passed _ _ _ _ _ _ c.judge-refused.ensures c.if-refused-ne0.false in (q.square, q.whole)
+forward-requires c = passed _ _ c.in_default.ensures refl
 
 pub returns : goal.returns
-unfolding forward forward_column diagonal lacking_columns lacking
-returns c = at-end _ _ _ _ c.judge-refused.ensures c.if-refused-ne0.false c.first_lacking-lacking.ensures c.if-lacking-ncols.false c.forward.ensures
+returns c = at-end _ _ _ _ c.in_default.ensures refl c.in_default-first_lacking.ensures c.forward.ensures

@@ -1,25 +1,24 @@
--- `raised`: the loop of proofs/Steps.antt. Assumes nothing.
-use native.Mathlib.Omega.{arith}
-use Rattle.cs_solve.proofs.Steps.{raising_start, raising_row, raising_set, raising_above, raising_end}
+-- `raised`: two slices side by side, of cs_solve/proofs/Sides.antt. Assumes nothing.
+use Rattle.std.proofs.Common.{sym, ap, arith, ◌∙◌}
+use Rattle.std.proofs.lemmas.Bool.Decides.{nat_tests}
+use Rattle.lists.specs.Folds.{over}
+use Rattle.cs_solve.specs.TrSolve.{raise_at}
+use Rattle.cs_solve.proofs.Sides.{left_turn, left_end}
+use Rattle.cs_solve.proofs.Steps.{raise_set}
 use Rattle.cs_solve.proofs.tr_solve.raised.Goals as goal
-use Rattle.cs_solve.proofs.tr_solve.raised.Goals.{else-j-i, then-j-i}
 
-pub loop-k-init : goal.loop-k-init
-loop-k-init c = raising_start c.requires
+pub loop-row-preserved-then-j-i : goal.loop-row-preserved-then-j-i
+loop-row-preserved-then-j-i c =
+    let e = left_turn (raise_at c.args.j) _ _ _ _ c.loop-row.row-iterator c.next.new.self _ _ c.loop-row.invariant c.in-Some.is
+    c.next.ensures.steps in
+    rw c.wide-i.ensures.0 (e ∙ ap (over (raise_at c.args.j) _ _) (sym (raise_set _ _ _ _ _ c.requires.here (omega arith))))
 
-pub bounds-b-i : goal.bounds-b-i
-bounds-b-i c = raising_row c.loop-k.invariant c.loop-k-test.true c.wide-i.ensures.0
-
-pub loop-k-smaller : goal.loop-k-smaller
-loop-k-smaller c = omega (arith, c.loop-k-test.true)
-
-pub loop-k-preserved : goal.loop-k-preserved
-loop-k-preserved c = let w = c.loop-k.invariant in
-    elim c.if-j-i.branch [
-      | then-j-i t ↦ rw t.y-is (raising_set w c.loop-k-test.true c.wide-i.ensures.0 t.if-j-i.true)
-      | else-j-i t ↦
-          rw t.y-is (raising_above w c.loop-k-test.true c.wide-i.ensures.0 t.if-j-i.false)
-    ]
+pub loop-row-preserved : goal.loop-row-preserved
+unfolding raise_at
+loop-row-preserved c =
+    let e = left_turn (raise_at c.args.j) _ _ _ _ c.loop-row.row-iterator c.next.new.self _ _ c.loop-row.invariant c.in-Some.is
+    c.next.ensures.steps in
+    grind (arith, nat_tests, e)
 
 pub returns : goal.returns
-returns c = raising_end c.loop-k.invariant c.loop-k-test.false
+returns c = left_end (raise_at c.args.j) _ _ _ _ c.loop-row.row-iterator c.next.new.self _ c.loop-row.invariant c.in-None.is c.next.ensures.steps

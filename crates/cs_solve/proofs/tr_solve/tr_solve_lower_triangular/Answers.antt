@@ -1,31 +1,23 @@
 -- `tr_solve_lower_triangular`: the ways out of proofs/Ways.antt. Assumes nothing.
-use native.Mathlib.Omega.{arith}
-use Rattle.cs_solve.specs.TrSolve.{transposed, transposed_column}
-use Rattle.cs_solve.specs.Judge.{lacking_columns}
-use Rattle.cs_solve.specs.Diagonal.{diagonal, lacking}
+use Rattle.std.proofs.Common.{arith, refl}
+use Rattle.lists.proofs.Refusals.{refusal-some}
 use Rattle.cs_solve.proofs.Ways.{passed, at_check, at_10, at-end}
 use Rattle.cs_solve.proofs.tr_solve.tr_solve_lower_triangular.Goals as goal
 
-pub returns-then-refused-ne0 : goal.returns-then-refused-ne0
-returns-then-refused-ne0 c = at_check _ _ _ _ c.judge-refused.ensures c.if-refused-ne0.true
+pub returns-in-Err : goal.returns-in-Err
+returns-in-Err c = rw c.refused.ensures (at_check _ _ _ _ c.in-Err.ensures (refusal-some _))
 
-pub last_lacking-lacking-requires : goal.last_lacking-lacking-requires
-last_lacking-lacking-requires c = (passed _ _ _ _ _ _ c.judge-refused.ensures c.if-refused-ne0.false).square
+pub last_lacking-requires : goal.last_lacking-requires
+last_lacking-requires c = (passed _ _ c.in_default.ensures refl).valid
 
-pub overflow_cast-result : goal.overflow_cast-result
-overflow_cast-result c = omega (
-  arith,
-  c.if-lacking-ncols.true,
-  (passed _ _ _ _ _ _ c.judge-refused.ensures c.if-refused-ne0.false).square.pattern.cols,
-)
+pub overflow_cast-column : goal.overflow_cast-column
+overflow_cast-column c = omega (arith, c.in-Some.ensures.2, (passed _ _ c.in_default.ensures refl).valid.pattern.cols)
 
-pub returns-then-lacking-ncols : goal.returns-then-lacking-ncols
-unfolding transposed transposed_column diagonal lacking_columns lacking
-returns-then-lacking-ncols c = at_10 _ _ _ _ c.judge-refused.ensures c.if-refused-ne0.false c.last_lacking-lacking.ensures c.if-lacking-ncols.true
+pub returns-in-Some : goal.returns-in-Some
+returns-in-Some c = rw c.lacking.ensures (at_10 _ _ _ _ c.in_default.ensures refl c.in-Some.ensures.0 c.in-Some.ensures.1)
 
 pub transposed-requires : goal.transposed-requires
-transposed-requires c = let q = passed _ _ _ _ _ _ c.judge-refused.ensures c.if-refused-ne0.false in (q.square, q.whole)
+transposed-requires c = passed _ _ c.in_default.ensures refl
 
 pub returns : goal.returns
-unfolding transposed transposed_column diagonal lacking_columns lacking
-returns c = at-end _ _ _ _ c.judge-refused.ensures c.if-refused-ne0.false c.last_lacking-lacking.ensures c.if-lacking-ncols.false c.transposed.ensures
+returns c = at-end _ _ _ _ c.in_default.ensures refl c.in_default-last_lacking.ensures c.transposed.ensures

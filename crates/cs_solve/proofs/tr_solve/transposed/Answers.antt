@@ -1,67 +1,16 @@
 -- `transposed`: the loop of proofs/Turns.antt. Assumes nothing.
 use native.Mathlib.Omega.{arith}
-use Rattle.cs_solve.proofs.Turns.{transposing_start, transposing_turn, transposing_end, k_in_n, column_asked}
-use Rattle.cs_solve.proofs.Columns.{handed}
+use Rattle.cs_solve.proofs.Turns.{transposing_turn, transposing_end, k_inside, column_asked}
 use Rattle.cs_solve.proofs.tr_solve.transposed.Goals as goal
 
-pub loop-j-init : goal.loop-j-init
-loop-j-init c = transposing_start c.requires.0 c.requires.1
-
-pub slice_bounds-value_at-count : goal.slice_bounds-value_at-count
-slice_bounds-value_at-count c = (handed c.requires.0 (k_in_n c.loop-j.invariant c.loop-j-test.true) c.wide-a.ensures.0 c.wide-e.ensures.0).order
-
-pub slice_bounds-value_at-start : goal.slice_bounds-value_at-start
-slice_bounds-value_at-start c = (handed c.requires.0 (k_in_n c.loop-j.invariant c.loop-j-test.true) c.wide-a.ensures.0 c.wide-e.ensures.0).order
-
-pub slice_bounds-value_at-end : goal.slice_bounds-value_at-end
-slice_bounds-value_at-end c = (handed c.requires.0 (k_in_n c.loop-j.invariant c.loop-j-test.true) c.wide-a.ensures.0 c.wide-e.ensures.0).inside
-
-pub slice_bounds-value_at-count-in-loop-j : goal.slice_bounds-value_at-count-in-loop-j
-slice_bounds-value_at-count-in-loop-j c =
-    (handed c.requires.0 (k_in_n c.loop-j.invariant c.loop-j-test.true) c.wide-a.ensures.0 c.wide-e.ensures.0).order
-
-pub slice_bounds-value_at-start-in-loop-j : goal.slice_bounds-value_at-start-in-loop-j
-slice_bounds-value_at-start-in-loop-j c =
-    (handed c.requires.0 (k_in_n c.loop-j.invariant c.loop-j-test.true) c.wide-a.ensures.0 c.wide-e.ensures.0).order
-
-pub slice_bounds-value_at-end-in-loop-j : goal.slice_bounds-value_at-end-in-loop-j
-slice_bounds-value_at-end-in-loop-j c = (handed c.requires.0 (k_in_n c.loop-j.invariant c.loop-j-test.true) c.wide-a.ensures.0
-    c.wide-e.ensures.0).inside_v
-
-pub slice_bounds-transposed_at-count : goal.slice_bounds-transposed_at-count
-slice_bounds-transposed_at-count c = (handed c.requires.0 (k_in_n c.loop-j.invariant c.loop-j-test.true) c.wide-a.ensures.0 c.wide-e.ensures.0).order
-
-pub slice_bounds-transposed_at-start : goal.slice_bounds-transposed_at-start
-slice_bounds-transposed_at-start c = (handed c.requires.0 (k_in_n c.loop-j.invariant c.loop-j-test.true) c.wide-a.ensures.0 c.wide-e.ensures.0).order
-
-pub slice_bounds-transposed_at-end : goal.slice_bounds-transposed_at-end
-slice_bounds-transposed_at-end c = (handed c.requires.0 (k_in_n c.loop-j.invariant c.loop-j-test.true) c.wide-a.ensures.0 c.wide-e.ensures.0).inside
-
-pub slice_bounds-transposed_at-count-in-loop-j : goal.slice_bounds-transposed_at-count-in-loop-j
-slice_bounds-transposed_at-count-in-loop-j c =
-    (handed c.requires.0 (k_in_n c.loop-j.invariant c.loop-j-test.true) c.wide-a.ensures.0 c.wide-e.ensures.0).order
-
-pub slice_bounds-transposed_at-start-in-loop-j : goal.slice_bounds-transposed_at-start-in-loop-j
-slice_bounds-transposed_at-start-in-loop-j c =
-    (handed c.requires.0 (k_in_n c.loop-j.invariant c.loop-j-test.true) c.wide-a.ensures.0 c.wide-e.ensures.0).order
-
-pub slice_bounds-transposed_at-end-in-loop-j : goal.slice_bounds-transposed_at-end-in-loop-j
-slice_bounds-transposed_at-end-in-loop-j c =
-    (handed c.requires.0 (k_in_n c.loop-j.invariant c.loop-j-test.true) c.wide-a.ensures.0 c.wide-e.ensures.0).inside_v
+pub column-requires : goal.column-requires
+column-requires c = (c.requires.valid, k_inside c.loop-j.invariant c.loop-j-test.true)
 
 pub transposed_at-requires : goal.transposed_at-requires
-transposed_at-requires c = column_asked c.loop-j.invariant c.loop-j-test.true (handed c.requires.0 (k_in_n c.loop-j.invariant c.loop-j-test.true)
-    c.wide-a.ensures.0 c.wide-e.ensures.0)
-
-pub loop-j-smaller : goal.loop-j-smaller
-loop-j-smaller c = omega (arith, c.loop-j-test.true)
+transposed_at-requires c = column_asked c.loop-j.invariant c.loop-j-test.true c.column.ensures
 
 pub loop-j-preserved : goal.loop-j-preserved
-loop-j-preserved c = transposing_turn c.loop-j.invariant c.loop-j-test.true (handed c.requires.0 (k_in_n c.loop-j.invariant c.loop-j-test.true)
-    c.wide-a.ensures.0 c.wide-e.ensures.0) c.value_at-d.ensures c.transposed_at.ensures
-
-pub shape_of-b : goal.shape_of-b
-shape_of-b c = c.loop-j.invariant.long
+loop-j-preserved c = transposing_turn c.loop-j.invariant c.loop-j-test.true c.column.ensures c.value_at-d.ensures c.transposed_at.ensures
 
 pub returns : goal.returns
 returns c = transposing_end c.loop-j.invariant (omega (arith, c.loop-j-test.false))

@@ -1,9 +1,7 @@
 -- `transposed`: the loop of proofs/Turns.antt. Assumes nothing.
+use Rattle.cs_matrix.specs.Lent.{matrix_of}
 use Rattle.cs_solve.proofs.Turns.{Transposing}
 use Rattle.cs_solve.proofs.tr_solve.transposed.Given as goal
 
 abbrev pub invariant-loop-j : goal.invariant-loop-j
-invariant-loop-j l = Transposing l.n l.p l.i l.v l.initial.b l.b l.j
-
-abbrev pub decreases-loop-j : goal.decreases-loop-j
-decreases-loop-j l = l.j
+invariant-loop-j l = Transposing (matrix_of l.a) l.initial.b l.b l.j

@@ -1,12 +1,10 @@
 -- `reach`: the loop of proofs/Reaching.antt. Assumes nothing.
-use mathlib.Core.Path.{sym, ap, ◌∙◌}
-use native.Mathlib.Omega.{arith}
-use lib.ListN.{length, length-replicate}
+use Rattle.std.proofs.Common.{arith, sym, ◌∙◌}
 use Rattle.cs_solve_cs.proofs.Reaching.{reaching_start, reaching_on, reaching_off, seen_before, seen_new, seen_not, reaching_end, count_small}
-use Rattle.cs_solve.proofs.Columns.{handed, j_small}
+use Rattle.cs_solve.proofs.Columns.{lacking-is, j_small}
 use Rattle.cs_solve_cs.proofs.reach.reach.Goals as goal
-use Rattle.cs_solve_cs.proofs.reach.reach.Goals.{then-w-j-ne0, else-w-j-ne0, then-n-lacking+then-value_at, else-n-lacking}
-use Rattle.cs_solve_cs.proofs.reach.reach.Goals.{else-n-lacking-via-then-n-lacking+else-value_at, else-n-lacking-via-else-n-lacking}
+use Rattle.cs_solve_cs.proofs.reach.reach.Goals.{then-w-j-ne0, else-w-j-ne0, then-is_none+then-value_at, else-is_none}
+use Rattle.cs_solve_cs.proofs.reach.reach.Goals.{else-is_none-via-then-is_none+else-value_at, else-is_none-via-else-is_none}
 
 pub loop-j-init : goal.loop-j-init
 loop-j-init c = reaching_start c.requires.0 c.requires.1 c.mark.ensures
@@ -15,58 +13,26 @@ pub overflow_add-count : goal.overflow_add-count
 overflow_add-count c = let h = count_small c.loop-j.invariant c.loop-j-test.true in
     record { fits = omega (arith, j_small c.loop-j.invariant.valid c.loop-j-test.true) }
 
-pub slice_bounds-value_at-count : goal.slice_bounds-value_at-count
-slice_bounds-value_at-count c = (handed c.loop-j.invariant.valid c.loop-j-test.true c.wide-a.ensures.0 c.wide-e.ensures.0).order
-
-pub slice_bounds-value_at-start : goal.slice_bounds-value_at-start
-slice_bounds-value_at-start c = (handed c.loop-j.invariant.valid c.loop-j-test.true c.wide-a.ensures.0 c.wide-e.ensures.0).order
-
-pub slice_bounds-value_at-end : goal.slice_bounds-value_at-end
-slice_bounds-value_at-end c = (handed c.loop-j.invariant.valid c.loop-j-test.true c.wide-a.ensures.0 c.wide-e.ensures.0).inside
-
-pub slice_bounds-value_at-count-then-n-lacking : goal.slice_bounds-value_at-count-then-n-lacking
-slice_bounds-value_at-count-then-n-lacking c = (handed c.loop-j.invariant.valid c.loop-j-test.true c.wide-a.ensures.0 c.wide-e.ensures.0).order
-
-pub slice_bounds-value_at-start-then-n-lacking : goal.slice_bounds-value_at-start-then-n-lacking
-slice_bounds-value_at-start-then-n-lacking c = (handed c.loop-j.invariant.valid c.loop-j-test.true c.wide-a.ensures.0 c.wide-e.ensures.0).order
-
-pub slice_bounds-value_at-end-then-n-lacking : goal.slice_bounds-value_at-end-then-n-lacking
-slice_bounds-value_at-end-then-n-lacking c = (handed c.loop-j.invariant.valid c.loop-j-test.true c.wide-a.ensures.0 c.wide-e.ensures.0).inside_v
-
-pub slice_bounds-mark-count : goal.slice_bounds-mark-count
-slice_bounds-mark-count c = (handed c.loop-j.invariant.valid c.loop-j-test.true c.wide-a.ensures.0 c.wide-e.ensures.0).order
-
-pub slice_bounds-mark-start : goal.slice_bounds-mark-start
-slice_bounds-mark-start c = (handed c.loop-j.invariant.valid c.loop-j-test.true c.wide-a.ensures.0 c.wide-e.ensures.0).order
-
-pub slice_bounds-mark-end : goal.slice_bounds-mark-end
-slice_bounds-mark-end c = (handed c.loop-j.invariant.valid c.loop-j-test.true c.wide-a.ensures.0 c.wide-e.ensures.0).inside
-
-pub loop-j-smaller : goal.loop-j-smaller
-loop-j-smaller c = omega (arith, c.loop-j-test.true)
-
 pub loop-j-preserved : goal.loop-j-preserved
 loop-j-preserved c =
     let r = c.loop-j.invariant in
     let h = c.loop-j-test.true in
     elim c.if-w-j-ne0.branch [
       | then-w-j-ne0 t ↦
-          let b = handed r.valid h t.wide-a.ensures.0 t.wide-e.ensures.0 in
           rw (t.w-is, t.count-is, t.lacking-is)
-          (reaching_on r h t.if-w-j-ne0.true b
-          (elim t.if-n-lacking.branch [
-            | then-n-lacking+then-value_at u ↦ rw u.lacking-is (seen_new r h b u.value_at.ensures u.if-n-lacking.true u.if-value_at.true)
-            | else-n-lacking u ↦ rw u.lacking-is (elim u.else-n-lacking.branch [
-              | else-n-lacking-via-then-n-lacking+else-value_at s ↦ seen_not r h b s.value_at.ensures s.if-value_at.false
-              | else-n-lacking-via-else-n-lacking s ↦ seen_before r h s.if-n-lacking.false
+          (reaching_on r h t.if-w-j-ne0.true t.column.ensures
+          (elim t.if-is_none.branch [
+            | then-is_none+then-value_at u ↦ rw u.lacking-is
+                (seen_new r h u.if-is_none.ensures (sym (lacking-is t.column.ensures u.value_at.ensures) ∙ u.if-value_at.true))
+            | else-is_none u ↦ rw u.lacking-is (elim u.else-is_none.branch [
+              | else-is_none-via-then-is_none+else-value_at s ↦ seen_not r h
+                  (sym (lacking-is t.column.ensures s.value_at.ensures) ∙ s.if-value_at.false)
+              | else-is_none-via-else-is_none s ↦ seen_before r h s.if-is_none.ensures
             ])
           ])
           t.mark-then-w-j-ne0.ensures)
       | else-w-j-ne0 t ↦ rw (t.w-is, t.count-is, t.lacking-is) (reaching_off r h t.if-w-j-ne0.false)
     ]
-
-pub shape_of-w : goal.shape_of-w
-shape_of-w c = c.loop-j.invariant.long ∙ sym (ap length c.requires.1 ∙ length-replicate _ _)
 
 pub returns : goal.returns
 returns c = reaching_end c.loop-j.invariant c.loop-j-test.false

@@ -1,10 +1,7 @@
 -- `reach`: the loop of proofs/Reaching.antt. Assumes nothing.
-use Prim.Native.Nat.{◌-◌}
+use Rattle.cs_matrix.specs.Lent.{matrix_of}
 use Rattle.cs_solve_cs.proofs.Reaching.{Reaching}
 use Rattle.cs_solve_cs.proofs.reach.reach.Given as goal
 
 abbrev pub invariant-loop-j : goal.invariant-loop-j
-invariant-loop-j l = Reaching l.n l.p l.i l.v l.bi l.w l.count l.lacking l.j
-
-abbrev pub decreases-loop-j : goal.decreases-loop-j
-decreases-loop-j l = l.n - l.j
+invariant-loop-j l = Reaching (matrix_of l.a) l.bi l.w l.count l.lacking l.j

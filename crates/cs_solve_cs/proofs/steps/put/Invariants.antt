@@ -1,11 +1,7 @@
--- `put`: the loop of proofs/Stepping.antt. Assumes nothing.
-use Prim.Native.Nat.{◌-◌}
-use lib.ListN.{length}
-use Rattle.cs_solve_cs.proofs.Stepping.{Putting}
+-- `put`: two slices side by side, of cs_solve/proofs/Sides.antt. Assumes nothing.
+use Rattle.cs_solve_cs.specs.SolveCs.{put_at}
+use Rattle.cs_solve.proofs.Sides.{Left}
 use Rattle.cs_solve_cs.proofs.steps.put.Given as goal
 
-abbrev pub invariant-loop-k : goal.invariant-loop-k
-invariant-loop-k l = Putting l.rows l.vals l.initial.x l.x l.k
-
-abbrev pub decreases-loop-k : goal.decreases-loop-k
-decreases-loop-k l = length l.rows - l.k
+abbrev pub invariant-loop-row : goal.invariant-loop-row
+invariant-loop-row l = Left put_at l.rows l.vals l.initial.x l.row-iterator l.x

@@ -3,15 +3,9 @@ use mathlib.Core.Logic.{inl, inr}
 use native.Mathlib.Omega.{arith}
 use Rattle.cs_columns.proofs.Merging.{first-in, second_in, both_first}
 use Rattle.cs_sum.proofs.Merged.{writing_small, first_i, first_v, first-value, second_i, second_v, second_value, both_i, both_v, both-value}
-use Rattle.cs_sum.proofs.Merged.{both-value_too, writing_i, writing_v, writing_done, walking_start, walking_first, walking_second, walking_both}
+use Rattle.cs_sum.proofs.Merged.{both-value_too, writing_done, walking_start, walking_first, walking_second, walking_both}
 use Rattle.cs_sum.proofs.merge.walk.Goals as goal
 use Rattle.cs_sum.proofs.merge.walk.Goals.{then-ka-ai, else-ka-ai+then-kb-bi, then-r-s, else-r-s+then-s-r, else-r-s+else-s-r}
-
-pub row_at-r-requires : goal.row_at-r-requires
-row_at-r-requires c = tt
-
-pub row_at-s-requires : goal.row_at-s-requires
-row_at-s-requires c = tt
 
 pub loop-ka-init : goal.loop-ka-init
 loop-ka-init c = walking_start _ _ _ _ _ _ c.requires c.row_at-r.ensures c.row_at-s.ensures
@@ -22,13 +16,6 @@ offset_bounds-oi-at c = omega (arith, writing_small _ _ _ _ _ _ c.loop-ka.invari
 pub bounds-oi-at : goal.bounds-oi-at
 bounds-oi-at c = first_i _ _ _ _ _ _ c.loop-ka.invariant.writing c.loop-ka.invariant.r_is c.loop-ka.invariant.s_is c.if-r-s.true
 
-pub offset_bounds-av-ka : goal.offset_bounds-av-ka
-offset_bounds-av-ka c = omega (
-  arith,
-  first-value _ _ _ _ _ _ c.loop-ka.invariant.writing c.loop-ka.invariant.r_is c.loop-ka.invariant.s_is
-      c.if-r-s.true,
-)
-
 pub bounds-av-ka : goal.bounds-av-ka
 bounds-av-ka c = first-value _ _ _ _ _ _ c.loop-ka.invariant.writing c.loop-ka.invariant.r_is c.loop-ka.invariant.s_is c.if-r-s.true
 
@@ -38,25 +25,11 @@ offset_bounds-ov-at c = omega (arith, writing_small _ _ _ _ _ _ c.loop-ka.invari
 pub bounds-ov-at : goal.bounds-ov-at
 bounds-ov-at c = first_v _ _ _ _ _ _ c.loop-ka.invariant.writing c.loop-ka.invariant.r_is c.loop-ka.invariant.s_is c.if-r-s.true
 
-pub overflow_add-ka : goal.overflow_add-ka
-overflow_add-ka c = let h = first-value _ _ _ _ _ _ c.loop-ka.invariant.writing c.loop-ka.invariant.r_is c.loop-ka.invariant.s_is c.if-r-s.true in
-    record { fits = omega arith }
-
-pub row_at-r-requires-then-r-s : goal.row_at-r-requires-then-r-s
-row_at-r-requires-then-r-s c = tt
-
 pub offset_bounds-oi-at-then-s-r : goal.offset_bounds-oi-at-then-s-r
 offset_bounds-oi-at-then-s-r c = omega (arith, writing_small _ _ _ _ _ _ c.loop-ka.invariant.writing)
 
 pub bounds-oi-at-then-s-r : goal.bounds-oi-at-then-s-r
 bounds-oi-at-then-s-r c = second_i _ _ _ _ _ _ c.loop-ka.invariant.writing c.loop-ka.invariant.r_is c.loop-ka.invariant.s_is c.if-s-r.true
-
-pub offset_bounds-bv-kb : goal.offset_bounds-bv-kb
-offset_bounds-bv-kb c = omega (
-  arith,
-  second_value _ _ _ _ _ _ c.loop-ka.invariant.writing c.loop-ka.invariant.r_is c.loop-ka.invariant.s_is
-      c.if-s-r.true,
-)
 
 pub bounds-bv-kb : goal.bounds-bv-kb
 bounds-bv-kb c = second_value _ _ _ _ _ _ c.loop-ka.invariant.writing c.loop-ka.invariant.r_is c.loop-ka.invariant.s_is c.if-s-r.true
@@ -67,13 +40,6 @@ offset_bounds-ov-at-then-s-r c = omega (arith, writing_small _ _ _ _ _ _ c.loop-
 pub bounds-ov-at-then-s-r : goal.bounds-ov-at-then-s-r
 bounds-ov-at-then-s-r c = second_v _ _ _ _ _ _ c.loop-ka.invariant.writing c.loop-ka.invariant.r_is c.loop-ka.invariant.s_is c.if-s-r.true
 
-pub overflow_add-kb : goal.overflow_add-kb
-overflow_add-kb c = let h = second_value _ _ _ _ _ _ c.loop-ka.invariant.writing c.loop-ka.invariant.r_is c.loop-ka.invariant.s_is c.if-s-r.true in
-    record { fits = omega arith }
-
-pub row_at-s-requires-then-s-r : goal.row_at-s-requires-then-s-r
-row_at-s-requires-then-s-r c = tt
-
 pub offset_bounds-oi-at-else-s-r : goal.offset_bounds-oi-at-else-s-r
 offset_bounds-oi-at-else-s-r c = omega (arith, writing_small _ _ _ _ _ _ c.loop-ka.invariant.writing)
 
@@ -81,27 +47,9 @@ pub bounds-oi-at-else-s-r : goal.bounds-oi-at-else-s-r
 bounds-oi-at-else-s-r c = both_i _ _ _ _ _ _ c.loop-ka.invariant.writing c.loop-ka.invariant.r_is c.loop-ka.invariant.s_is c.if-s-r.false
     c.if-r-s.false (elim c.if-ka-ai.branch [ then-ka-ai t ↦ inl t.if-ka-ai.true | else-ka-ai+then-kb-bi t ↦ inr t.if-kb-bi.true ])
 
-pub offset_bounds-av-ka-else-s-r : goal.offset_bounds-av-ka-else-s-r
-offset_bounds-av-ka-else-s-r c = omega (
-  arith,
-  both-value _ _ _ _ _ _ c.loop-ka.invariant.writing c.loop-ka.invariant.r_is c.loop-ka.invariant.s_is
-      c.if-s-r.false c.if-r-s.false (elim c.if-ka-ai.branch [ then-ka-ai t ↦ inl t.if-ka-ai.true | else-ka-ai+then-kb-bi t ↦ inr t.if-kb-bi.true ]),
-)
-
 pub bounds-av-ka-else-s-r : goal.bounds-av-ka-else-s-r
 bounds-av-ka-else-s-r c = both-value _ _ _ _ _ _ c.loop-ka.invariant.writing c.loop-ka.invariant.r_is c.loop-ka.invariant.s_is c.if-s-r.false
     c.if-r-s.false (elim c.if-ka-ai.branch [ then-ka-ai t ↦ inl t.if-ka-ai.true | else-ka-ai+then-kb-bi t ↦ inr t.if-kb-bi.true ])
-
-pub offset_bounds-bv-kb-else-s-r : goal.offset_bounds-bv-kb-else-s-r
-offset_bounds-bv-kb-else-s-r c = omega (
-  arith,
-  both-value_too _ _ _ _ _ _ c.loop-ka.invariant.writing c.loop-ka.invariant.r_is
-      c.loop-ka.invariant.s_is c.if-s-r.false c.if-r-s.false (elim c.if-ka-ai.branch [
-        | then-ka-ai t ↦ inl t.if-ka-ai.true
-        | else-ka-ai+then-kb-bi t ↦
-            inr t.if-kb-bi.true
-      ]),
-)
 
 pub bounds-bv-kb-else-s-r : goal.bounds-bv-kb-else-s-r
 bounds-bv-kb-else-s-r c = both-value_too _ _ _ _ _ _ c.loop-ka.invariant.writing c.loop-ka.invariant.r_is c.loop-ka.invariant.s_is c.if-s-r.false
@@ -113,22 +61,6 @@ offset_bounds-ov-at-else-s-r c = omega (arith, writing_small _ _ _ _ _ _ c.loop-
 pub bounds-ov-at-else-s-r : goal.bounds-ov-at-else-s-r
 bounds-ov-at-else-s-r c = both_v _ _ _ _ _ _ c.loop-ka.invariant.writing c.loop-ka.invariant.r_is c.loop-ka.invariant.s_is c.if-s-r.false
     c.if-r-s.false (elim c.if-ka-ai.branch [ then-ka-ai t ↦ inl t.if-ka-ai.true | else-ka-ai+then-kb-bi t ↦ inr t.if-kb-bi.true ])
-
-pub overflow_add-ka-else-s-r : goal.overflow_add-ka-else-s-r
-overflow_add-ka-else-s-r c = let h = both-value _ _ _ _ _ _ c.loop-ka.invariant.writing c.loop-ka.invariant.r_is c.loop-ka.invariant.s_is
-    c.if-s-r.false c.if-r-s.false (elim c.if-ka-ai.branch [ then-ka-ai t ↦ inl t.if-ka-ai.true | else-ka-ai+then-kb-bi t ↦ inr t.if-kb-bi.true ]) in
-    record { fits = omega arith }
-
-pub overflow_add-kb-else-s-r : goal.overflow_add-kb-else-s-r
-overflow_add-kb-else-s-r c = let h = both-value_too _ _ _ _ _ _ c.loop-ka.invariant.writing c.loop-ka.invariant.r_is c.loop-ka.invariant.s_is
-    c.if-s-r.false c.if-r-s.false (elim c.if-ka-ai.branch [ then-ka-ai t ↦ inl t.if-ka-ai.true | else-ka-ai+then-kb-bi t ↦ inr t.if-kb-bi.true ]) in
-    record { fits = omega arith }
-
-pub row_at-r-requires-else-s-r : goal.row_at-r-requires-else-s-r
-row_at-r-requires-else-s-r c = tt
-
-pub row_at-s-requires-else-s-r : goal.row_at-s-requires-else-s-r
-row_at-s-requires-else-s-r c = tt
 
 pub overflow_add-at : goal.overflow_add-at
 overflow_add-at c = let h = writing_small _ _ _ _ _ _ c.loop-ka.invariant.writing in record { fits = omega arith }
@@ -161,12 +93,6 @@ loop-ka-preserved c =
           (elim c.if-ka-ai.branch [ then-ka-ai t ↦ inl t.if-ka-ai.true | else-ka-ai+then-kb-bi t ↦ inr t.if-kb-bi.true ])
           t.row_at-r-else-s-r.ensures t.row_at-s-else-s-r.ensures)
     ]
-
-pub shape_of-oi : goal.shape_of-oi
-shape_of-oi c = writing_i _ _ _ _ _ _ c.loop-ka.invariant.writing
-
-pub shape_of-ov : goal.shape_of-ov
-shape_of-ov c = writing_v _ _ _ _ _ _ c.loop-ka.invariant.writing
 
 pub returns : goal.returns
 returns c = writing_done _ _ _ _ _ _ c.loop-ka.invariant.writing c.if-ka-ai.false c.if-kb-bi.false

@@ -1,10 +1,7 @@
 -- `count`: the loop of proofs/Summed.antt. Assumes nothing.
-use Prim.Native.Nat.{◌-◌}
+use Rattle.cs_matrix.specs.Lent.{matrix_of}
 use Rattle.cs_sum.proofs.Summed.{Tallying}
 use Rattle.cs_sum.proofs.sum.count.Given as goal
 
 abbrev pub invariant-loop-j : goal.invariant-loop-j
-invariant-loop-j l = Tallying l.nrows l.ncols l.ap l.ai l.av l.bp l.bi l.bv l.places l.j
-
-abbrev pub decreases-loop-j : goal.decreases-loop-j
-decreases-loop-j l = l.ncols - l.j
+invariant-loop-j l = Tallying (matrix_of l.a) (matrix_of l.b) l.places l.j

@@ -1,29 +1,24 @@
 -- `sum`: the ways out of proofs/Summed.antt. Assumes nothing.
-use mathlib.Core.List.{[]}
+use Rattle.std.proofs.Common.{refl, []}
+use Rattle.lists.proofs.Refusals.{passed-number, passed-some}
 use Rattle.cs_matrix.specs.Matrix.{stored}
 use Rattle.cs_sum.proofs.Summed.{at_check, alike, at_7, ready, at-end}
 use Rattle.cs_sum.proofs.sum.sum.Goals as goal
 
-pub differ-apart-requires : goal.differ-apart-requires
-differ-apart-requires c = tt
+pub returns-in_err-check_two : goal.returns-in_err-check_two
+returns-in_err-check_two c = at_check _ _ _ c.differ.ensures (passed-number _ _ c.from_residual.ensures.1 c.in_err-check_two.ensures)
+    (passed-some _ _ c.from_residual.ensures.1)
 
-pub check_two-refused-requires : goal.check_two-refused-requires
-check_two-refused-requires c = tt
+pub check_room-requires : goal.check_room-requires
+check_room-requires c = alike _ _ (stored [] [] []) c.differ.ensures c.in_ok-check_two.ensures refl
 
-pub returns-then-refused-ne0 : goal.returns-then-refused-ne0
-returns-then-refused-ne0 c = at_check _ _ _ _ _ _ _ _ _ _ _ c.differ-apart.ensures c.check_two-refused.ensures c.if-refused-ne0.true
-
-pub lacks_room-requires : goal.lacks_room-requires
-lacks_room-requires c = alike _ _ _ _ _ _ _ _ _ _ (stored [] [] []) c.differ-apart.ensures c.check_two-refused.ensures c.if-refused-ne0.false
-
-pub returns-then-lacks_room : goal.returns-then-lacks_room
-returns-then-lacks_room c = at_7 _ _ _ _ _ _ _ _ _ _ _ c.differ-apart.ensures c.check_two-refused.ensures c.if-refused-ne0.false
-    c.lacks_room.ensures c.if-lacks_room.true
+pub returns-in_err-check_room : goal.returns-in_err-check_room
+returns-in_err-check_room c = at_7 _ _ _ c.differ.ensures c.in_ok-check_two.ensures refl
+    (passed-number _ _ c.from_residual-in_err-check_room.ensures.1 c.in_err-check_room.ensures)
+    (passed-some _ _ c.from_residual-in_err-check_room.ensures.1)
 
 pub fill-requires : goal.fill-requires
-fill-requires c = ready _ _ _ _ _ _ _ _ _ _ _ c.differ-apart.ensures c.check_two-refused.ensures c.if-refused-ne0.false c.lacks_room.ensures
-    c.if-lacks_room.false
+fill-requires c = ready _ _ _ c.differ.ensures c.in_ok-check_two.ensures refl c.in_ok-check_room.ensures refl
 
 pub returns : goal.returns
-returns c = at-end _ _ _ _ _ _ _ _ _ _ _ c.differ-apart.ensures c.check_two-refused.ensures c.if-refused-ne0.false c.lacks_room.ensures
-    c.if-lacks_room.false c.fill.ensures
+returns c = at-end _ _ _ c.differ.ensures c.in_ok-check_two.ensures refl c.in_ok-check_room.ensures refl c.fill.ensures

@@ -1,10 +1,6 @@
 -- `row_at`: the step of proofs/Rowing.antt. Assumes nothing.
-use mathlib.Core.Path.{refl}
 use Rattle.cs_up.proofs.Rowing.{reads-takes}
 use Rattle.cs_up.proofs.row.row_at.Goals as goal
 
 pub take_column-requires : goal.take_column-requires
 take_column-requires c = reads-takes c.requires _
-
-pub returns : goal.returns
-returns c = (refl, refl, c.take_column.ensures)

@@ -1,34 +1,22 @@
 -- `rows_at`: the loop of proofs/Rowing.antt. Assumes nothing.
 use mathlib.Core.Path.{refl, ◌∙◌}
 use native.Mathlib.Omega.{arith}
-use Rattle.cs_up.proofs.Rowing.{rowing_start, rowing_pass, rowing_next, rowing_end, row-in-next, row-in_lp, place_few, row_reads}
+use Rattle.cs_up.proofs.Rowing.{rowing_start, rowing_pass, rowing_next, rowing_end, place_few, row_reads}
 use Rattle.cs_up.proofs.row.rows_at.Goals as goal
 use Rattle.cs_up.proofs.row.rows_at.Goals.{else-j-k, then-j-k}
 
-pub loop-q-init : goal.loop-q-init
-loop-q-init c = rowing_start _ c.requires
-
-pub bounds-next-j : goal.bounds-next-j
-bounds-next-j c = row-in-next c.loop-q.invariant c.loop-q-test.true c.wide-j.ensures.0 c.if-j-k.true refl refl
-
-pub bounds-lp-j : goal.bounds-lp-j
-bounds-lp-j c = row-in_lp c.loop-q.invariant c.loop-q-test.true c.wide-j.ensures.0 c.if-j-k.true refl refl
+pub loop-u-init : goal.loop-u-init
+loop-u-init c = rowing_start _ c.requires
 
 pub row_at-t-requires : goal.row_at-t-requires
-row_at-t-requires c = row_reads c.loop-q.invariant c.loop-q-test.true c.wide-j.ensures.0 c.if-j-k.true c.wide.ensures.0 c.wide-then-j-k.ensures.0
+row_at-t-requires c = row_reads c.loop-u.invariant c.loop-u-test.true c.wide-j.ensures.0 c.if-j-k.true c.wide.ensures.0 c.wide-then-j-k.ensures.0
 
 pub overflow_add-next : goal.overflow_add-next
-overflow_add-next c = let h = place_few c.loop-q.invariant c.loop-q-test.true c.wide-j.ensures.0 c.if-j-k.true refl refl in
+overflow_add-next c = let h = place_few c.loop-u.invariant c.loop-u-test.true c.wide-j.ensures.0 c.if-j-k.true refl refl in
     record { fits = omega arith }
 
-pub bounds-next-j-then-j-k : goal.bounds-next-j-then-j-k
-bounds-next-j-then-j-k c = row-in-next c.loop-q.invariant c.loop-q-test.true c.wide-j.ensures.0 c.if-j-k.true refl refl
-
-pub loop-q-smaller : goal.loop-q-smaller
-loop-q-smaller c = omega (arith, c.loop-q-test.true)
-
-pub loop-q-preserved : goal.loop-q-preserved
-loop-q-preserved c = let w = c.loop-q.invariant in let h = c.loop-q-test.true in let f = c.wide-j.ensures.0 in
+pub loop-u-preserved : goal.loop-u-preserved
+loop-u-preserved c = let w = c.loop-u.invariant in let h = c.loop-u-test.true in let f = c.wide-j.ensures.0 in
     elim c.if-j-k.branch [
       | then-j-k t ↦ rowing_next w h f t.if-j-k.true t.wide.ensures.0 t.wide-then-j-k.ensures.0 t.row_at-t.ensures.0 (t.lx-is ∙
           t.row_at-t.ensures.1) t.next-is (t.x-is ∙ t.row_at-t.ensures.2) t.pivot-is
@@ -36,14 +24,5 @@ loop-q-preserved c = let w = c.loop-q.invariant in let h = c.loop-q-test.true in
           rw (u.lx-is, u.next-is, u.x-is, u.pivot-is) (rowing_pass w h f u.if-j-k.false)
     ]
 
-pub shape_of-lx : goal.shape_of-lx
-shape_of-lx c = c.loop-q.invariant.lx_long
-
-pub shape_of-next : goal.shape_of-next
-shape_of-next c = c.loop-q.invariant.next_long
-
-pub shape_of-x : goal.shape_of-x
-shape_of-x c = c.loop-q.invariant.x_long
-
 pub returns : goal.returns
-returns c = rowing_end c.loop-q.invariant c.loop-q-test.false
+returns c = rowing_end c.loop-u.invariant c.loop-u-test.false

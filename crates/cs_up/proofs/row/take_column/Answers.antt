@@ -9,9 +9,3 @@ slice_bounds-take_run-end c = run-within c.args.x.now c.requires (sym c.tight.en
 
 pub returns-then-tight : goal.returns-then-tight
 returns-then-tight c = run-takes c.args.x.now c.requires (sym c.tight.ensures ∙ c.if-tight.true) c.wide-first.ensures.0 _ c.take_run.ensures
-
-pub take_rows-requires : goal.take_rows-requires
-take_rows-requires c = c.requires.0
-
-pub returns : goal.returns
-returns c = c.take_rows.ensures

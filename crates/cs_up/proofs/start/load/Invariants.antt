@@ -1,11 +1,6 @@
 -- `load`: the loop of proofs/Loading.antt. Assumes nothing.
-use Prim.Native.Nat.{◌-◌}
-use lib.ListN.{length}
 use Rattle.cs_up.proofs.Loading.{Loading}
 use Rattle.cs_up.proofs.start.load.Given as goal
 
 abbrev pub invariant-loop-q : goal.invariant-loop-q
 invariant-loop-q l = Loading l.k l.rows l.vals l.initial.x l.x l.q
-
-abbrev pub decreases-loop-q : goal.decreases-loop-q
-decreases-loop-q l = length l.rows - l.q

@@ -1,40 +1,15 @@
 -- `column`: a column's steps, by the laws of proofs/Turning.antt. Assumes nothing.
-use native.Mathlib.Omega.{arith}
-use Rattle.cs_up.proofs.Turning.{in_p, in-up, stored, stored-in_v, column_loads, upper_order, upper_inside, column-rows, column-gone}
+use Rattle.cs_up.proofs.Turning.{stored, stored-in_v, column_loads, upper_order, upper_inside, column-rows, column-gone}
 use Rattle.cs_up.proofs.up.column.Goals as goal
 
-pub bounds-p-k : goal.bounds-p-k
-bounds-p-k c = omega (arith, in_p c.requires.ready c.requires.here)
-
-pub bounds-p-k-2 : goal.bounds-p-k-2
-bounds-p-k-2 c = in_p c.requires.ready c.requires.here
-
-pub slice_bounds-start-count : goal.slice_bounds-start-count
-slice_bounds-start-count c = (stored c.requires.ready c.requires.here c.wide-a.ensures.0 c.wide-e.ensures.0).order
-
-pub slice_bounds-start-start : goal.slice_bounds-start-start
-slice_bounds-start-start c = (stored c.requires.ready c.requires.here c.wide-a.ensures.0 c.wide-e.ensures.0).order
-
 pub slice_bounds-start-end : goal.slice_bounds-start-end
-slice_bounds-start-end c = (stored c.requires.ready c.requires.here c.wide-a.ensures.0 c.wide-e.ensures.0).inside
-
-pub slice_bounds-start-count-2 : goal.slice_bounds-start-count-2
-slice_bounds-start-count-2 c = (stored c.requires.ready c.requires.here c.wide-a.ensures.0 c.wide-e.ensures.0).order
-
-pub slice_bounds-start-start-2 : goal.slice_bounds-start-start-2
-slice_bounds-start-start-2 c = (stored c.requires.ready c.requires.here c.wide-a.ensures.0 c.wide-e.ensures.0).order
+slice_bounds-start-end c = (stored c.requires.ready c.requires.here c.wide-s.ensures.0 c.wide-e.ensures.0).inside
 
 pub slice_bounds-start-end-2 : goal.slice_bounds-start-end-2
-slice_bounds-start-end-2 c = stored-in_v c.requires.ready c.requires.here c.wide-a.ensures.0 c.wide-e.ensures.0
+slice_bounds-start-end-2 c = stored-in_v c.requires.ready c.requires.here c.wide-s.ensures.0 c.wide-e.ensures.0
 
 pub start-first-requires : goal.start-first-requires
-start-first-requires c = column_loads c.requires.ready c.requires.here c.wide-a.ensures.0 c.wide-e.ensures.0
-
-pub bounds-up-k : goal.bounds-up-k
-bounds-up-k c = omega (arith, in-up c.requires.ready c.requires.here)
-
-pub bounds-up-k-2 : goal.bounds-up-k-2
-bounds-up-k-2 c = in-up c.requires.ready c.requires.here
+start-first-requires c = column_loads c.requires.ready c.requires.here c.wide-s.ensures.0 c.wide-e.ensures.0
 
 pub slice_bounds-rows_at-count : goal.slice_bounds-rows_at-count
 slice_bounds-rows_at-count c = upper_order c.requires.ready c.requires.here c.wide-b.ensures.0 c.wide-f.ensures.0
@@ -46,9 +21,9 @@ pub slice_bounds-rows_at-end : goal.slice_bounds-rows_at-end
 slice_bounds-rows_at-end c = upper_inside c.requires.ready c.requires.here c.wide-b.ensures.0 c.wide-f.ensures.0
 
 pub rows_at-requires : goal.rows_at-requires
-rows_at-requires c = column-rows c.requires.ready c.requires.here c.wide-a.ensures.0 c.wide-e.ensures.0 c.start-first.ensures c.wide-b.ensures.0
+rows_at-requires c = column-rows c.requires.ready c.requires.here c.wide-s.ensures.0 c.wide-e.ensures.0 c.start-first.ensures c.wide-b.ensures.0
     c.wide-f.ensures.0 c.requires.stands
 
 pub returns : goal.returns
-returns c = column-gone c.requires.ready c.requires.here c.wide-a.ensures.0 c.wide-e.ensures.0 c.start-first.ensures c.wide-b.ensures.0
+returns c = column-gone c.requires.ready c.requires.here c.wide-s.ensures.0 c.wide-e.ensures.0 c.start-first.ensures c.wide-b.ensures.0
     c.wide-f.ensures.0 c.rows_at.ensures

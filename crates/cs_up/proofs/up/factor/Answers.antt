@@ -1,36 +1,20 @@
 -- `factor`: the loop of proofs/Factoring.antt. Assumes nothing.
-use native.Mathlib.Omega.{arith}
-use Rattle.cs_up.proofs.Factoring.{factoring-start, factoring_asks, factoring_stop, factoring_closes, factoring-turn, factoring-end}
+use Rattle.cs_up.proofs.Factoring.{factoring-start, factoring_stop, factoring_closes, factoring-turn, factoring-end}
 use Rattle.cs_up.proofs.up.factor.Goals as goal
 
 pub loop-k-init : goal.loop-k-init
 loop-k-init c = factoring-start c.requires
 
-pub column-pivot-requires : goal.column-pivot-requires
-column-pivot-requires c = factoring_asks c.loop-k.invariant c.loop-k-test.true
-
 pub returns-then-not-pivot : goal.returns-then-not-pivot
-returns-then-not-pivot c = factoring_stop c.loop-k.invariant c.loop-k-test.true c.column-pivot.ensures c.if-not-pivot.true-raw
+returns-then-not-pivot c = rw c.number.ensures (factoring_stop c.loop-k.invariant c.loop-k-test.true c.column-pivot.ensures c.if-not-pivot.true)
 
 pub close-requires : goal.close-requires
-close-requires c = factoring_closes c.loop-k.invariant c.loop-k-test.true c.column-pivot.ensures c.if-not-pivot.false-raw c.column-pivot.auto.lx
+close-requires c = factoring_closes c.loop-k.invariant c.loop-k-test.true c.column-pivot.ensures c.if-not-pivot.false c.column-pivot.auto.lx
     c.column-pivot.auto.next
 
-pub loop-k-smaller : goal.loop-k-smaller
-loop-k-smaller c = omega (arith, c.loop-k-test.true)
-
 pub loop-k-preserved : goal.loop-k-preserved
-loop-k-preserved c = factoring-turn c.loop-k.invariant c.loop-k-test.true c.column-pivot.ensures c.if-not-pivot.false-raw c.column-pivot.auto.lx
+loop-k-preserved c = factoring-turn c.loop-k.invariant c.loop-k-test.true c.column-pivot.ensures c.if-not-pivot.false c.column-pivot.auto.lx
     c.column-pivot.auto.next c.column-pivot.auto.x c.close.ensures
 
-pub shape_of-lx : goal.shape_of-lx
-shape_of-lx c = c.loop-k.invariant.lx_long
-
-pub shape_of-next : goal.shape_of-next
-shape_of-next c = c.loop-k.invariant.next_long
-
-pub shape_of-x : goal.shape_of-x
-shape_of-x c = c.loop-k.invariant.x_long
-
 pub returns : goal.returns
-returns c = factoring-end c.loop-k.invariant c.loop-k-test.false c.refused.ensures
+returns c = factoring-end c.loop-k.invariant c.loop-k-test.false

@@ -1,15 +1,13 @@
 -- `factor` meets its contract. Assumes nothing.
-use native.Mathlib.Omega.{arith}
-use Rattle.cs_tree.specs.Pattern.{analysis}
-use Rattle.cs_matrix.specs.Matrix.{matrix}
+use Rattle.cs_matrix.specs.Lent.{matrix_of}
+use Rattle.cs_pattern.specs.Lent.{analysis_of}
 use Rattle.job.proofs.Engines.{by_left, by_up}
 use Rattle.job.proofs.factor.factor.Goals as goal
 
-pub returns-in-1 : goal.returns-in-1
-returns-in-1 c = by_left c.args.engine (matrix c.args.n c.args.n c.args.p.now c.args.i.now c.args.v.now)
-    (analysis c.args.tree.now c.args.up.now c.args.ui.now c.args.lp.now c.args.li.now) c.args.lx.now c.by_left.result _ c.in-1.is c.by_left.ensures
+pub returns-in-Left : goal.returns-in-Left
+returns-in-Left c = by_left c.args.engine (matrix_of c.args.a) (analysis_of c.args.given) c.args.lx.now c.decompose_left_looking.result _ _ _
+    c.in-Left.is c.decompose_left_looking.ensures
 
-pub returns-in_default : goal.returns-in_default
-returns-in_default c = by_up c.args.engine (matrix c.args.n c.args.n c.args.p.now c.args.i.now c.args.v.now)
-    (analysis c.args.tree.now c.args.up.now c.args.ui.now c.args.lp.now c.args.li.now) c.args.lx.now c.by_up.result _ (λ e. omega (arith, e))
-    c.by_up.ensures
+pub returns-in-Up : goal.returns-in-Up
+returns-in-Up c = by_up c.args.engine (matrix_of c.args.a) (analysis_of c.args.given) c.args.lx.now c.decompose_up_looking.result _ _ _
+    c.in-Up.is c.decompose_up_looking.ensures

@@ -7,13 +7,10 @@ pub loop-row-init : goal.loop-row-init
 loop-row-init c = rows_start _ _
 
 pub put_row-at-requires : goal.put_row-at-requires
-put_row-at-requires c = omega (arith, c.loop-row.invariant.here, c.loop-row.invariant.long, c.loop-row-test.true, c.requires)
+put_row-at-requires c = omega arith
 
 pub loop-row-preserved : goal.loop-row-preserved
-loop-row-preserved c = rows-turn _ c.loop-row.invariant c.loop-row-test.true c.index.ensures c.put_row-at.ensures c.put_row-at.auto.out
-
-pub shape_of-out : goal.shape_of-out
-shape_of-out c = c.loop-row.invariant.long
+loop-row-preserved c = rows-turn _ c.loop-row.invariant c.loop-row-test.true c.put_row-at.ensures
 
 pub returns : goal.returns
-returns c = rows-done c.requires c.loop-row.invariant c.loop-row-test.false
+returns c = rows-done (omega arith) (omega arith) c.loop-row.invariant

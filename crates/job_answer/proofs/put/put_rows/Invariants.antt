@@ -1,11 +1,6 @@
 -- `put_rows` meets its contract. Assumes nothing.
-use lib.ListN.{length}
-use Prim.Native.Nat.{◌-◌}
 use Rattle.job_answer.proofs.Putting.{Rows}
 use Rattle.job_answer.proofs.put.put_rows.Given as goal
 
 abbrev pub invariant-loop-row : goal.invariant-loop-row
 invariant-loop-row l = Rows l.initial.out l.x l.out l.at l.row
-
-abbrev pub decreases-loop-row : goal.decreases-loop-row
-decreases-loop-row l = length l.x - l.row

@@ -20,7 +20,3 @@ returns-in-Right c = sym (ap (λ (x : Found). size (told x)) c.in-Right.is)
 pub returns-in-Go : goal.returns-in-Go
 unfolding size
 returns-in-Go c = sym (ap (λ (x : Found). size (told x)) c.in-Go.is)
-
-pub returns-in-Wrong : goal.returns-in-Wrong
-unfolding size
-returns-in-Wrong c = sym (ap (λ (x : Found). size (told x)) c.in-Wrong.is)

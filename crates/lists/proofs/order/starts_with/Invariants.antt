@@ -1,11 +1,8 @@
--- `starts_with`: the laws of proofs/Matching.antt. Assumes nothing.
+-- `starts_with`: every place of the shorter is looked at. Assumes nothing.
+use Rattle.std.proofs.Common.{◌≡◌}
+use Rattle.lists.specs.Folds.{every}
 use Rattle.lists.proofs.Matching.{same_at}
-use Rattle.lists.proofs.Folds.{Telling}
-use Rattle.std.proofs.Common.{◌-◌, ◌≤◌, length}
 use Rattle.lists.proofs.order.starts_with.Given as goal
 
 abbrev pub invariant-loop-q : goal.invariant-loop-q
-invariant-loop-q l = Telling (same_at l.a l.b) (length l.a) l.apart l.q × (length l.a ≤ length l.b)
-
-abbrev pub decreases-loop-q : goal.decreases-loop-q
-decreases-loop-q l = length l.a - l.q
+invariant-loop-q l = l.same ≡ every l.q (same_at l.a l.b)
