@@ -140,7 +140,11 @@ module _ {a : Matrix} {stamp : ℕ} {rows : List ℕ} {vals : List Float} {mark 
 
   pub column-counted : {r : ℕ} {x₂ : List Float} → r ≡ length (keep (remains x') (part 0 many met')) → x₂ ≡ replicate (length x') none
       → (r ≡ length (chosen a.pattern.nrows (remains (column_of a rows vals)))) × Fresh a.pattern.nrows (stamp + 1) mark' met' x₂
-  column-counted f g = (f ∙ count_is m ∙ ap (λ (w : List Float). length (chosen a.pattern.nrows (remains w))) x_is, next_fresh m m.met_long (g ∙ zeros))
+  column-counted f g = (
+    f ∙ count_is m ∙ ap (λ (w : List Float). length (chosen a.pattern.nrows (remains w))) x_is,
+    next_fresh m m.met_long
+        (g ∙ zeros),
+  )
 
   module _ {start : ℕ} {spare oi : List ℕ} {ov : List Float} (c : Column a stamp rows vals start mark met spare x oi ov) {y met₂ : List ℕ}
       (f : y ≡ in_order 65535 (part 0 many met')) (g : met₂ ≡ placed 0 many met' y) where

@@ -14,49 +14,63 @@ pub offset_bounds-oi-at : goal.offset_bounds-oi-at
 offset_bounds-oi-at c = omega (arith, writing_small _ _ _ _ _ _ c.loop-ka.invariant.writing)
 
 pub bounds-oi-at : goal.bounds-oi-at
-bounds-oi-at c = first_i _ _ _ _ _ _ c.loop-ka.invariant.writing c.loop-ka.invariant.r_is c.loop-ka.invariant.s_is (less-is c.cmp.ensures c.in-Less.is)
+bounds-oi-at c = first_i _ _ _ _ _ _ c.loop-ka.invariant.writing c.loop-ka.invariant.r_is c.loop-ka.invariant.s_is
+    (less-is c.cmp.ensures c.in-Less.is)
 
 pub bounds-av-ka : goal.bounds-av-ka
-bounds-av-ka c = first-value _ _ _ _ _ _ c.loop-ka.invariant.writing c.loop-ka.invariant.r_is c.loop-ka.invariant.s_is (less-is c.cmp.ensures c.in-Less.is)
+bounds-av-ka c = first-value _ _ _ _ _ _ c.loop-ka.invariant.writing c.loop-ka.invariant.r_is c.loop-ka.invariant.s_is
+    (less-is c.cmp.ensures c.in-Less.is)
 
 pub offset_bounds-ov-at : goal.offset_bounds-ov-at
 offset_bounds-ov-at c = omega (arith, writing_small _ _ _ _ _ _ c.loop-ka.invariant.writing)
 
 pub bounds-ov-at : goal.bounds-ov-at
-bounds-ov-at c = first_v _ _ _ _ _ _ c.loop-ka.invariant.writing c.loop-ka.invariant.r_is c.loop-ka.invariant.s_is (less-is c.cmp.ensures c.in-Less.is)
+bounds-ov-at c = first_v _ _ _ _ _ _ c.loop-ka.invariant.writing c.loop-ka.invariant.r_is c.loop-ka.invariant.s_is
+    (less-is c.cmp.ensures c.in-Less.is)
 
 pub offset_bounds-oi-at-in-Greater : goal.offset_bounds-oi-at-in-Greater
 offset_bounds-oi-at-in-Greater c = omega (arith, writing_small _ _ _ _ _ _ c.loop-ka.invariant.writing)
 
 pub bounds-oi-at-in-Greater : goal.bounds-oi-at-in-Greater
-bounds-oi-at-in-Greater c = second_i _ _ _ _ _ _ c.loop-ka.invariant.writing c.loop-ka.invariant.r_is c.loop-ka.invariant.s_is (greater_is c.cmp.ensures c.in-Greater.is)
+bounds-oi-at-in-Greater c = second_i _ _ _ _ _ _ c.loop-ka.invariant.writing c.loop-ka.invariant.r_is c.loop-ka.invariant.s_is
+    (greater_is c.cmp.ensures c.in-Greater.is)
 
 pub bounds-bv-kb : goal.bounds-bv-kb
-bounds-bv-kb c = second_value _ _ _ _ _ _ c.loop-ka.invariant.writing c.loop-ka.invariant.r_is c.loop-ka.invariant.s_is (greater_is c.cmp.ensures c.in-Greater.is)
+bounds-bv-kb c = second_value _ _ _ _ _ _ c.loop-ka.invariant.writing c.loop-ka.invariant.r_is c.loop-ka.invariant.s_is
+    (greater_is c.cmp.ensures c.in-Greater.is)
 
 pub offset_bounds-ov-at-in-Greater : goal.offset_bounds-ov-at-in-Greater
 offset_bounds-ov-at-in-Greater c = omega (arith, writing_small _ _ _ _ _ _ c.loop-ka.invariant.writing)
 
 pub bounds-ov-at-in-Greater : goal.bounds-ov-at-in-Greater
-bounds-ov-at-in-Greater c = second_v _ _ _ _ _ _ c.loop-ka.invariant.writing c.loop-ka.invariant.r_is c.loop-ka.invariant.s_is (greater_is c.cmp.ensures c.in-Greater.is)
+bounds-ov-at-in-Greater c = second_v _ _ _ _ _ _ c.loop-ka.invariant.writing c.loop-ka.invariant.r_is c.loop-ka.invariant.s_is
+    (greater_is c.cmp.ensures c.in-Greater.is)
 
 pub offset_bounds-oi-at-in-Equal : goal.offset_bounds-oi-at-in-Equal
 offset_bounds-oi-at-in-Equal c = omega (arith, writing_small _ _ _ _ _ _ c.loop-ka.invariant.writing)
 
 pub bounds-oi-at-in-Equal : goal.bounds-oi-at-in-Equal
-bounds-oi-at-in-Equal c = both_i _ _ _ _ _ _ c.loop-ka.invariant.writing c.loop-ka.invariant.r_is c.loop-ka.invariant.s_is (equal-is c.cmp.ensures c.in-Equal.is) (elim c.if-ka-ai.branch [ then-ka-ai t ↦ inl t.if-ka-ai.true | else-ka-ai+then-kb-bi t ↦ inr t.if-kb-bi.true ])
+bounds-oi-at-in-Equal c = both_i _ _ _ _ _ _ c.loop-ka.invariant.writing c.loop-ka.invariant.r_is c.loop-ka.invariant.s_is
+    (equal-is c.cmp.ensures c.in-Equal.is) (elim c.if-ka-ai.branch
+    [ then-ka-ai t ↦ inl t.if-ka-ai.true | else-ka-ai+then-kb-bi t ↦ inr t.if-kb-bi.true ])
 
 pub bounds-av-ka-in-Equal : goal.bounds-av-ka-in-Equal
-bounds-av-ka-in-Equal c = both-value _ _ _ _ _ _ c.loop-ka.invariant.writing c.loop-ka.invariant.r_is c.loop-ka.invariant.s_is (equal-is c.cmp.ensures c.in-Equal.is) (elim c.if-ka-ai.branch [ then-ka-ai t ↦ inl t.if-ka-ai.true | else-ka-ai+then-kb-bi t ↦ inr t.if-kb-bi.true ])
+bounds-av-ka-in-Equal c = both-value _ _ _ _ _ _ c.loop-ka.invariant.writing c.loop-ka.invariant.r_is c.loop-ka.invariant.s_is
+    (equal-is c.cmp.ensures c.in-Equal.is) (elim c.if-ka-ai.branch
+    [ then-ka-ai t ↦ inl t.if-ka-ai.true | else-ka-ai+then-kb-bi t ↦ inr t.if-kb-bi.true ])
 
 pub bounds-bv-kb-in-Equal : goal.bounds-bv-kb-in-Equal
-bounds-bv-kb-in-Equal c = both-value_too _ _ _ _ _ _ c.loop-ka.invariant.writing c.loop-ka.invariant.r_is c.loop-ka.invariant.s_is (equal-is c.cmp.ensures c.in-Equal.is) (elim c.if-ka-ai.branch [ then-ka-ai t ↦ inl t.if-ka-ai.true | else-ka-ai+then-kb-bi t ↦ inr t.if-kb-bi.true ])
+bounds-bv-kb-in-Equal c = both-value_too _ _ _ _ _ _ c.loop-ka.invariant.writing c.loop-ka.invariant.r_is c.loop-ka.invariant.s_is
+    (equal-is c.cmp.ensures c.in-Equal.is) (elim c.if-ka-ai.branch
+    [ then-ka-ai t ↦ inl t.if-ka-ai.true | else-ka-ai+then-kb-bi t ↦ inr t.if-kb-bi.true ])
 
 pub offset_bounds-ov-at-in-Equal : goal.offset_bounds-ov-at-in-Equal
 offset_bounds-ov-at-in-Equal c = omega (arith, writing_small _ _ _ _ _ _ c.loop-ka.invariant.writing)
 
 pub bounds-ov-at-in-Equal : goal.bounds-ov-at-in-Equal
-bounds-ov-at-in-Equal c = both_v _ _ _ _ _ _ c.loop-ka.invariant.writing c.loop-ka.invariant.r_is c.loop-ka.invariant.s_is (equal-is c.cmp.ensures c.in-Equal.is) (elim c.if-ka-ai.branch [ then-ka-ai t ↦ inl t.if-ka-ai.true | else-ka-ai+then-kb-bi t ↦ inr t.if-kb-bi.true ])
+bounds-ov-at-in-Equal c = both_v _ _ _ _ _ _ c.loop-ka.invariant.writing c.loop-ka.invariant.r_is c.loop-ka.invariant.s_is
+    (equal-is c.cmp.ensures c.in-Equal.is) (elim c.if-ka-ai.branch
+    [ then-ka-ai t ↦ inl t.if-ka-ai.true | else-ka-ai+then-kb-bi t ↦ inr t.if-kb-bi.true ])
 
 pub overflow_add-at : goal.overflow_add-at
 overflow_add-at c = let h = writing_small _ _ _ _ _ _ c.loop-ka.invariant.writing in record { fits = omega arith }
@@ -82,7 +96,8 @@ pub loop-ka-preserved : goal.loop-ka-preserved
 loop-ka-preserved c =
     let w = c.loop-ka.invariant in
     elim c.match-cmp.branch [
-      | in-Less t ↦ rw (t.oi-is, t.ov-is, t.ka-is, t.kb-is, t.r-is, t.s-is) (walking_first _ _ _ _ _ _ w (less-is c.cmp.ensures t.in-Less.is) t.row_at-r-in-Less.ensures)
+      | in-Less t ↦ rw (t.oi-is, t.ov-is, t.ka-is, t.kb-is, t.r-is, t.s-is)
+          (walking_first _ _ _ _ _ _ w (less-is c.cmp.ensures t.in-Less.is) t.row_at-r-in-Less.ensures)
       | in-Greater t ↦ rw (t.oi-is, t.ov-is, t.ka-is, t.kb-is, t.r-is, t.s-is)
           (walking_second _ _ _ _ _ _ w (greater_is c.cmp.ensures t.in-Greater.is) t.row_at-s-in-Greater.ensures)
       | in-Equal t ↦ rw (t.oi-is, t.ov-is, t.ka-is, t.kb-is, t.r-is, t.s-is) (walking_both _ _ _ _ _ _ w (equal-is c.cmp.ensures t.in-Equal.is)
