@@ -20,6 +20,13 @@ pub struct Factored {
 }
 
 impl Factored {
+    // Nothing refused.
+    pub const DONE: Factored = Factored {
+        number: 0,
+        column: 0,
+        pivot: 0.0,
+    };
+
     // The answer that refuses, with no column and no pivot.
     pub fn refused(refusal: Refusal) -> Factored
         ensures { result ≡ factored (number_of refusal) 0 none }
@@ -28,6 +35,17 @@ impl Factored {
             number: refusal.number(),
             column: 0,
             pivot: 0.0,
+        }
+    }
+
+    // The answer that names a column whose pivot is not above zero, or is NaN.
+    pub fn stopped(column: u32, pivot: f64) -> Factored
+        ensures { result ≡ factored 11 column pivot }
+    {
+        Factored {
+            number: Refusal::BadPivot.number(),
+            column,
+            pivot,
         }
     }
 }

@@ -2,3 +2,4 @@ pub mod Judging
 pub mod Joining
 pub mod Filling
 pub mod Merging
+pub mod Handing

@@ -7,6 +7,8 @@ use Prim.Native.Nat.{ℕ, ◌+◌, ◌≤◌, ◌<◌}
 use native.Mathlib.Nat.{eq-or-lt_of_le}
 use native.Mathlib.Omega.{arith}
 use lib.ListN.{length, get_or, get_or-eq_default}
+use Rattle.std.proofs.Common.{Ordering, Less, Equal, Greater, nat_cmp}
+use Rattle.std.proofs.lemmas.Cmp.{ranked}
 use Rattle.lists.specs.Choices.{chosen}
 use Rattle.lists.specs.Order.{rises, lists}
 use Rattle.lists.proofs.Bools.{le-or-lt}
@@ -17,6 +19,17 @@ use Rattle.lists.proofs.Members.{get_d_any}
 use Rattle.lists.proofs.Ordering.{rises-apart}
 use Rattle.lists.proofs.Skipping.{chosen-next, chosen-rest, lists_at, lists_nowhere}
 use Rattle.cs_columns.specs.Columns.{either}
+
+-- ---- what an answer of `cmp` says of two rows
+module _ {r s : ℕ} {o : Ordering} (e : o ≡ nat_cmp r s) where
+  pub less-is : o ≡ Less → r < s
+  less-is f = let h = ranked r s o e in rw f at h
+
+  pub greater_is : o ≡ Greater → s < r
+  greater_is f = let h = ranked r s o e in rw f at h
+
+  pub equal-is : o ≡ Equal → r ≡ s
+  equal-is f = let h = ranked r s o e in rw f at h
 
 -- ---- one of the two lists: it rises, k of it are below b, and the others are not
 pub record Half (l : List ℕ) (k b : ℕ) : Type 0 where
@@ -258,3 +271,11 @@ merging_room {n} {l} {m} v = rw v.is (chosen_grows (either l m) v.bound n v.with
 pub either-most : (n : ℕ) (l m : List ℕ) → length (chosen n (either l m)) ≤ length l + length m
 unfolding either
 either-most n l m = omega (arith, chosen-or n (either l m) (λ r. lists r l) (λ r. lists r m) (λ r h e. e), chosen-lists n l, chosen-lists n m)
+
+-- rows below n, whichever number not below it the choice runs to
+pub either-fewer : {n b : ℕ} (l m : List ℕ) → n ≤ b → ((k : ℕ) → k < length l → get_or l k 0 < n) → ((k : ℕ) → k < length m → get_or m k 0 < n)
+    → chosen b (either l m) ≡ chosen n (either l m)
+unfolding either
+either-fewer {n} {b} l m h f g =
+    chosen-rest (either l m) n b h (λ r o q.
+    (rw (lists_nowhere r l (λ k i e. absurd (omega (arith, f k i))), lists_nowhere r m (λ k i e. absurd (omega (arith, g k i)))) (λ i. false)))

@@ -1,10 +1,15 @@
 -- What a call on two matrices judges, and a result that is written column by column. Assumes nothing.
-use Rattle.std.specs.Prelude.{Bool, ◌||◌, List, [], ◌++◌, map, ℕ, zero, suc, ◌+◌, ltb, Float, length, take}
+use Rattle.std.specs.Prelude.{Bool, ◌||◌, List, [], ◌++◌, ◌≡◌, map, ℕ, zero, suc, ◌+◌, ltb, Float, length, take}
 use Rattle.lists.specs.Calls.{both, disagree, onto}
 use Rattle.lists.specs.Choices.{chosen}
 use Rattle.lists.specs.Order.{lists}
 use Rattle.lists.specs.Tables.{table}
-use Rattle.cs_matrix.specs.Matrix.{Matrix, matrix, judged, short_by}
+use Rattle.cs_matrix.specs.Matrix.{Matrix, matrix, column, judged, short_by}
+
+-- the rows and values of column j
+pub record IsColumn (a : Matrix) (j : ℕ) (rows : List ℕ) (vals : List Float) : Type 0 where
+  pub rows_are : rows ≡ column a.pattern.p j a.pattern.i
+  pub vals_are : vals ≡ column a.pattern.p j a.v
 
 module _ {A : Type 0} where
   -- the items of the columns below n, one column behind another

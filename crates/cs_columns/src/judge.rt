@@ -6,7 +6,7 @@ ghost use Rattle.cs_matrix.specs.Lent.{matrix_of};
 ghost use Rattle.cs_columns.specs.Columns.{judged_two, short_for};
 
 use cs_matrix::check::check;
-use cs_matrix::matrix::Matrix;
+use cs_matrix::matrix::{MAX_ENTRIES, Matrix};
 use cs_matrix::room::too_short;
 use lists::refusal::{Refusal, lower};
 
@@ -28,5 +28,5 @@ pub fn check_two(a: Matrix<'_>, b: Matrix<'_>, differ: bool) -> Result<(), Refus
 pub fn no_room(ncols: usize, entries: usize, plen: usize, ilen: usize, vlen: usize) -> bool
     ensures { result ≡ short_for ncols entries plen ilen vlen }
 {
-    entries > 4194304 || too_short(ncols, entries, plen, ilen, vlen)
+    entries > MAX_ENTRIES || too_short(ncols, entries, plen, ilen, vlen)
 }

@@ -8,3 +8,4 @@ pub mod Turning
 pub mod Working
 pub mod Mirroring
 pub mod Ways
+pub mod Seeking

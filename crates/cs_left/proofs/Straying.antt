@@ -3,16 +3,17 @@ use mathlib.Core.Path.{◌≡◌, refl, sym, ap, ◌∙◌}
 use mathlib.Core.Bool.{Bool, true, false, not, cond, ◌&&◌, ◌||◌}
 use mathlib.Core.List.{List, [], ◌∷◌, ◌++◌, Memᴰ}
 use mathlib.Core.Logic.{◌⊎◌, inl, inr, ⊎_elim}
-use Prim.Native.Nat.{ℕ, zero, suc, ◌+◌, ◌≤◌, ◌<◌}
+use Prim.Native.Nat.{ℕ, zero, suc, ◌+◌, ◌-◌, ◌≤◌, ◌<◌}
 use native.Mathlib.Omega.{arith}
-use lib.Dec.{ltb}
+use lib.Dec.{ltb, eqb}
 use lib.ListN.{length, get_or, drop}
-use borrow.Author.Tests.{lt-ltb, le-ltb}
+use lib.Seq.{drop-drop}
+use borrow.Author.Tests.{lt-ltb, le-ltb, eqb-true, eqb-false}
 use Rattle.std.specs.List.{list_any, range_with_len}
+use Rattle.std.proofs.lemmas.List.{get_or-drop, length-drop}
 use Rattle.std.proofs.Math.Bool.{or_assoc, or-false}
 use Rattle.lists.specs.Choices.{some_of, some, chosen}
 use Rattle.lists.specs.Order.{lists, rises}
-use Rattle.lists.specs.Parts.{part}
 use Rattle.lists.proofs.Bools.{le-or-lt, and-false}
 use Rattle.lists.proofs.Members.{listed-or-not}
 use Rattle.lists.proofs.Ordering.{rises-apart, member_lists}
@@ -22,7 +23,6 @@ use Rattle.cs_tree.specs.Pattern.{analysis}
 use Rattle.lists.proofs.Spots.{Spot, spot, member_at}
 use Rattle.cs_matrix.proofs.Pointers.{length-column, get_or-column}
 use Rattle.cs_left.specs.Steps.{stray_in, Within, Rises, Seeks}
-use Rattle.cs_left.proofs.Within.{within-part}
 
 -- ---- `stray`: rows before q are no strays, and all that is held before `at` is below the rows from q on
 pub record Straying (k : ℕ) (rows held : List ℕ) (q at : ℕ) : Type 0 where
@@ -51,78 +51,58 @@ module _ {k : ℕ} {rows held : List ℕ} {q at : ℕ} (w : Straying k rows held
           passed = λ a r i j m. w.passed a r i (omega arith) m;
         }
 
-    later : (r : ℕ) → q ≤ r → r < length rows → row ≤ get_or rows r 0
-    later r i m = ⊎_elim (λ (z : r ≤ q). (let y : r ≡ q = omega arith in rw (y, e) (omega arith)))
-        (λ (z : q < r). omega (arith, rises-apart rows w.rows_rise q r z m)) (le-or-lt r q)
-
-    -- nothing held is the row
-    absent : (at < length held → row < get_or held at 0) → lists row held ≡ false
-    absent f = ⊎_elim (λ y. absurd (no (spot y.1))) (λ y. y.0) (listed-or-not row held)
+    -- a row that is not held from `at` on is a stray
+    pub straying_absent : k < row → ((b : ℕ) → at ≤ b → b < length held → get_or held b 0 ≡ row → ⊥) → true ≡ stray_in k held rows
+    straying_absent g f = sym (here ∙ (rw (lt-ltb k row g, absent) refl))
       where
         no : Spot held row → ⊥
         no a =
-            ⊎_elim
-            (λ (z : at ≤ a.at). ⊎_elim (λ (y : a.at ≤ at). (let u : a.at ≡ at = omega arith in
-            omega (arith, f (omega (arith, a.inside)), a.is, ap (λ (m : ℕ). get_or held m 0) u)))
-            (λ (y : at < a.at). omega (arith, f (omega (arith, a.inside)), a.is, rises-apart held w.held_rise at a.at y a.inside)) (le-or-lt a.at at))
+            ⊎_elim (λ (z : at ≤ a.at). f a.at z a.inside a.is)
             (λ (z : a.at < at). omega (arith, w.passed a.at q z (omega arith) h, a.is)) (le-or-lt at a.at)
 
-    stray-is : k < row → lists row held ≡ false → true ≡ stray_in k held rows
-    stray-is g f = sym (here ∙ (rw (lt-ltb k row g, f) refl))
+        absent : lists row held ≡ false
+        absent = ⊎_elim (λ y. absurd (no (spot y.1))) (λ y. y.0) (listed-or-not row held)
 
-    pub straying_short : k < row → length held ≤ at → true ≡ stray_in k held rows
-    straying_short g l = stray-is g (absent (λ m. absurd (omega arith)))
-
-    module _ {a : ℕ} (d : a ≡ get_or held at 0) where
-      pub straying_above : k < row → row < a → true ≡ stray_in k held rows
-      straying_above g l = stray-is g (absent (λ m. omega arith))
-
-      module _ (l : at < length held) where
-        pub straying_found : a ≡ row → Straying k rows held (q + 1) (at + 1)
-        straying_found g = record {
-          rows_rise = w.rows_rise;
-          held_rise = w.held_rise;
-          in_rows = omega arith;
-          in_held = omega arith;
-          rest = here ∙ (rw (listed, and-false (ltb k row)) refl);
-          passed = λ b r i j m. ⊎_elim (λ (z : at ≤ b). (let y : b ≡ at = omega arith in
-              omega (arith, ap (λ (u : ℕ). get_or held u 0) y, rises-apart rows w.rows_rise q r (omega arith) m)))
-              (λ (z : b < at). w.passed b r z (omega arith) m) (le-or-lt at b);
-        }
-          where
-            listed : lists row held ≡ true
-            listed = member_lists row held (rw (← g, d) (member_at held at l))
-
-        pub straying_skip : a < row → Straying k rows held q (at + 1)
-        straying_skip g =
-            record {
-              rows_rise = w.rows_rise;
-              held_rise = w.held_rise;
-              in_rows = w.in_rows;
-              in_held = omega arith;
-              rest = w.rest;
-              passed = λ b r i j m. ⊎_elim (λ (z : at ≤ b). (let y : b ≡ at = omega arith in
-                  omega (arith, ap (λ (u : ℕ). get_or held u 0) y, later r j m))) (λ (z : b < at). w.passed b r z j m) (le-or-lt at b);
-            }
+    -- a row that is held at b is none, and all that is held up to b is below the rows behind it
+    pub straying_found : (b : ℕ) → at ≤ b → b < length held → get_or held b 0 ≡ row → Straying k rows held (q + 1) (b + 1)
+    straying_found b a l g = record {
+      rows_rise = w.rows_rise;
+      held_rise = w.held_rise;
+      in_rows = omega arith;
+      in_held = omega arith;
+      rest = here ∙ (rw (listed, and-false (ltb k row)) refl);
+      passed = λ c r i j m. ⊎_elim (λ (z : b ≤ c). (let y : c ≡ b = omega arith in
+          omega (arith, g, ap (λ (u : ℕ). get_or held u 0) y, rises-apart rows w.rows_rise q r (omega arith) m)))
+          (λ (z : c < b). omega (arith, g, rises-apart held w.held_rise c b z l, rises-apart rows w.rows_rise q r (omega arith) m)) (le-or-lt b c);
+    }
+      where
+        listed : lists row held ≡ true
+        listed = member_lists row held (rw (← g) (member_at held b l))
 
   pub straying_end : length rows ≤ q → false ≡ stray_in k held rows
   unfolding stray_in some_of
   straying_end h = sym (w.rest ∙ ap (stray_in k held) (left-none rows q h))
 
+-- what a search leaves of the rows held from `at` on, R
+module _ (held : List ℕ) (at : ℕ) {R : List ℕ} {row : ℕ} (e : R ≡ drop at held) where
+  pub left_none : ((i : ℕ) → i < length R → eqb (get_or R i 0) row ≡ false) → (b : ℕ) → at ≤ b → b < length held → get_or held b 0 ≡ row → ⊥
+  left_none f b a l g = eqb-false (get_or R (b - at) 0) row (f (b - at) (omega (arith, ap length e, length-drop at held)))
+      (ap (λ (k : List ℕ). get_or k (b - at) 0) e ∙ get_or-drop at held (b - at) 0 ∙ ap (λ (k : ℕ). get_or held k 0) (omega arith) ∙ g)
+
+  pub left_found : {m : ℕ} {T : List ℕ} → m < length R → eqb (get_or R m 0) row ≡ true → T ≡ drop (m + 1) R →
+      (at + m < length held) × (get_or held (at + m) 0 ≡ row) × (T ≡ drop (at + m + 1) held)
+  left_found {m} h t g =
+      let l : at + m < length held = omega (arith, ap length e, length-drop at held) in
+      let y : get_or R m 0 ≡ get_or held (at + m) 0 = ap (λ (k : List ℕ). get_or k m 0) e ∙ get_or-drop at held m 0 in (
+        l,
+        sym y ∙ eqb-true (get_or R m 0) row t,
+        g ∙ ap (drop (m + 1)) e ∙ drop-drop (m + 1) at held ∙ ap (λ (k : ℕ). drop k held) (omega arith),
+      )
+
 -- ---- `strays`
-module _ {n k a e s f : ℕ} {p i lp li : List ℕ} (v : Rises n p i × Rises n lp li) (h : k < n) (x : a ≡ get_or p k 0) (y : e ≡ get_or p (k + 1) 0)
-    (z : s ≡ get_or lp k 0) (t : f ≡ get_or lp (k + 1) 0) where
-  rows_are : part a e i ≡ column p k i
-  rows_are = within-part (v.0.each k h) x y i
-
-  held_are : part s f li ≡ column lp k li
-  held_are = within-part (v.1.each k h) z t li
-
-  pub stray_asks : (rises (part a e i) ≡ true) × (rises (part s f li) ≡ true)
-  stray_asks = (rw rows_are (v.0.rise k h), rw held_are (v.1.rise k h))
-
-  pub stray_here : {r : Bool} → r ≡ stray_in k (part s f li) (part a e i) → stray_in k (column lp k li) (column p k i) ≡ r
-  stray_here g = sym (g ∙ ap (λ (l : List ℕ). stray_in k l (part a e i)) held_are ∙ ap (stray_in k (column lp k li)) rows_are)
+pub stray_asks : {n k : ℕ} {p i lp li rows held : List ℕ} → rows ≡ column p k i → held ≡ column lp k li → Rises n p i × Rises n lp li → k < n
+    → (rises rows ≡ true) × (rises held ≡ true)
+stray_asks {k = k} x z v h = (rw x (v.0.rise k h), rw z (v.1.rise k h))
 
 -- ---- `stray_at`: no row is a stray that is at or above the diagonal or has a place in L
 none_stray : (k : ℕ) (held rows : List ℕ) → ((q : ℕ) → q < length rows → (get_or rows q 0 ≤ k) ⊎ Memᴰ (get_or rows q 0) held) →
@@ -141,8 +121,8 @@ module _ {m n k : ℕ} {p i tr up ui lp li next : List ℕ} (w : Seeks k (patter
   seeks_both = (w.sought.stored, w.sought.held)
 
   -- all rows of the column are met
-  pub seeks_none : {a e : ℕ} → a ≡ get_or next k 0 → e ≡ get_or p (k + 1) 0 → a ≡ e → false ≡ stray_in k (column lp k li) (column p k i)
-  seeks_none f g h = none_stray k (column lp k li) (column p k i) each
+  pub seeks_none : get_or next k 0 ≡ get_or p (k + 1) 0 → false ≡ stray_in k (column lp k li) (column p k i)
+  seeks_none h = none_stray k (column lp k li) (column p k i) each
     where
       each : (q : ℕ) → q < length (column p k i) → (get_or (column p k i) q 0 ≤ k) ⊎ Memᴰ (get_or (column p k i) q 0) (column lp k li)
       each q m =

@@ -1,14 +1,25 @@
 // The steps of one column of the left factoring: what x gathers, and what the column of L becomes.
-ghost use Rattle.std.specs.Prelude.{◌≡◌, true, length};
+ghost use Rattle.std.specs.Prelude.{◌≡◌, true, ◌+◌, ◌≤◌, ◌<◌, length, get_or};
 ghost use Rattle.lists.specs.Entries.{Entries, plus_at};
 ghost use Rattle.lists.specs.Folds.{along, over};
 ghost use Rattle.lists.specs.Order.{rises};
+ghost use Rattle.cs_matrix.specs.Matrix.{column};
 ghost use Rattle.cs_left.specs.Left.{put_at, quotients};
 ghost use Rattle.cs_left.specs.Steps.{zero_at, add_held, advance, Crossings, Places};
 
 use lists::numbers::wide;
 use lists::sides::add_times;
 use lists::tight::tight;
+
+// What column k has of a list with one item for each entry: the part between its two pointers.
+pub fn column<'a, T>(k: usize, p: &[u32], l: &'a [T]) -> &'a [T]
+    requires { (k + 1 < length p.now) × (get_or p.now k 0 ≤ get_or p.now (k + 1) 0) × (get_or p.now (k + 1) 0 ≤ length l.now) }
+    ensures { result.now ≡ column p.now k l.now }
+{
+    let s = wide(p[k]);
+    let e = wide(p[k + 1]);
+    &l[s..e]
+}
 
 // The stored values of rows at and below k are put into x.
 pub fn load(k: usize, rows: &[u32], vals: &[f64], x: &mut [f64])

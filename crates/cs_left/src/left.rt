@@ -15,7 +15,7 @@ ghost use Rattle.cs_left.specs.Left.{put_at, quotients, left, number};
 ghost use Rattle.cs_cholesky.specs.Lent.{square_of};
 ghost use Rattle.cs_left.specs.Steps.{add_held, advance, zero_at, Gathers, Finishes, Asked};
 
-use crate::column::{add_columns, divide, load};
+use crate::column::{add_columns, column, divide, load};
 use crate::stray::strays;
 use cs_cholesky::Factored;
 use cs_cholesky::judge::judge;
@@ -47,12 +47,8 @@ fn gather(
     let Matrix { pattern, v } = a;
     let Pattern { p, i, .. } = pattern;
     let Analysis { up, ui, lp, li, .. } = given;
-    let s = wide(p[k]);
-    let e = wide(p[k + 1]);
-    load(k, &i[s..e], &v[s..e], x);
-    let b = wide(up[k]);
-    let f = wide(up[k + 1]);
-    add_columns(k, &ui[b..f], lp, li, lx, next, x);
+    load(k, column(k, p, i), column(k, p, v), x);
+    add_columns(k, column(k, up, ui), lp, li, lx, next, x);
     x[k]
 }
 
@@ -92,11 +88,7 @@ fn factor(
     for k in 0..a.pattern.ncols {
         let pivot = gather(k, a, given, lx, next, x);
         if !(pivot > 0.0) {
-            return Err(Factored {
-                number: Refusal::BadPivot.number(),
-                column: k as u32,
-                pivot,
-            });
+            return Err(Factored::stopped(k as u32, pivot));
         }
         finish(k, root(pivot), given, lx, next, x);
     }
@@ -119,11 +111,7 @@ fn work(
         fill(0.0, wide(given.up[a.pattern.ncols]), lx);
         return stopped;
     }
-    Factored {
-        number: 0,
-        column: 0,
-        pivot: 0.0,
-    }
+    Factored::DONE
 }
 
 // Factors a matrix by its lent analysis: L's values are written to lx.

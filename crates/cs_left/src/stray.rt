@@ -6,36 +6,22 @@ ghost use Rattle.cs_matrix.specs.Lent.{pattern_of};
 ghost use Rattle.cs_pattern.specs.Lent.{analysis_of};
 ghost use Rattle.cs_left.specs.Steps.{stray_in, stray_at, some_stray, Mirrors, Seeks, Sought};
 
+use crate::column::column;
 use crate::mirror::meet_columns;
 use cs_matrix::matrix::Pattern;
 use cs_pattern::compare::Analysis;
 use lists::clear::fill;
 use lists::numbers::wide;
 
-// A row below k is absent from the rows held. Both lists rise, so that one pass over both tells: two positions that move apart, which no
-// `for` counts.
+// A row below k is absent from the rows held. Both lists rise, so that each search goes on behind the row found last.
 fn stray(k: usize, rows: &[u32], held: &[u32]) -> bool
     requires { (rises rows.now ≡ true) × (rises held.now ≡ true) }
     ensures { result ≡ stray_in k held.now rows.now }
 {
-    let mut q = 0;
-    let mut at = 0;
-    while q < rows.len() {
-        let row = wide(rows[q]);
-        if row > k {
-            if at >= held.len() {
-                return true;
-            }
-            let h = wide(held[at]);
-            if h > row {
-                return true;
-            }
-            if h == row {
-                q += 1;
-            }
-            at += 1;
-        } else {
-            q += 1;
+    let mut rest = held.iter();
+    for &row in rows {
+        if wide(row) > k && !rest.any(|&h| h == row) {
+            return true;
         }
     }
     false
@@ -48,14 +34,10 @@ fn stray_at(k: usize, a: Pattern<'_>, given: Analysis<'_>, next: &[u32]) -> bool
 {
     let Pattern { p, i, .. } = a;
     let Analysis { lp, li, .. } = given;
-    let s = wide(p[k]);
-    let e = wide(p[k + 1]);
-    if wide(next[k]) == e {
+    if next[k] == p[k + 1] {
         return false;
     }
-    let b = wide(lp[k]);
-    let f = wide(lp[k + 1]);
-    stray(k, &i[s..e], &li[b..f])
+    stray(k, column(k, p, i), column(k, lp, li))
 }
 
 // Some column has.

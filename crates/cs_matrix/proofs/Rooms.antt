@@ -1,27 +1,14 @@
 -- Number 7 in lengths: `too_short` test by test, and what it says of a matrix that is to be written. Assumes nothing.
 use mathlib.Core.Path.{◌≡◌}
-use mathlib.Core.Bool.{true, false, ◌||◌}
-use Prim.Native.Nat.{ℕ, ◌+◌, ◌≤◌, ◌<◌}
-use native.Mathlib.Omega.{arith}
+use mathlib.Core.Bool.{false, ◌||◌}
+use Prim.Native.Nat.{ℕ, ◌+◌, ◌≤◌}
 use lib.Dec.{ltb}
 use lib.ListN.{length}
-use borrow.Author.Tests.{lt-ltb, le-ltb, ltb-false}
+use borrow.Author.Tests.{le-ltb, ltb-false}
 use Rattle.lists.proofs.Bools.{or-false}
 use Rattle.cs_matrix.specs.Matrix.{Matrix, Stored, short, short_by}
 
 module _ (n k p i v : ℕ) where
-  pub short_p : p ≤ n → true ≡ short_by n k p i v
-  unfolding short_by
-  short_p h = rw (lt-ltb p (n + 1) (omega arith))
-
-  pub short_i : n < p → i < k → true ≡ short_by n k p i v
-  unfolding short_by
-  short_i g h = rw (le-ltb p (n + 1) (omega arith), lt-ltb i k h)
-
-  pub short_v : n < p → k ≤ i → ltb v k ≡ short_by n k p i v
-  unfolding short_by
-  short_v g h = rw (le-ltb p (n + 1) (omega arith), le-ltb i k h)
-
   -- there is room
   pub record Room : Type 0 where
     pub in_p : n + 1 ≤ p

@@ -3,14 +3,9 @@ ghost use Rattle.std.specs.Prelude.{◌≡◌};
 ghost use Rattle.cs_matrix.specs.Matrix.{short_by};
 
 // An output is shorter than needed: ncols + 1 pointers, and a row and a value for each entry.
+#[tactic(auto, unfolding(crate::specs::Matrix::short_by))]
 pub fn too_short(ncols: usize, entries: usize, plen: usize, ilen: usize, vlen: usize) -> bool
     ensures { result ≡ short_by ncols entries plen ilen vlen }
 {
-    if plen <= ncols {
-        return true;
-    }
-    if ilen < entries {
-        return true;
-    }
-    vlen < entries
+    plen <= ncols || ilen < entries || vlen < entries
 }

@@ -1,7 +1,6 @@
 -- The columns of a valid pattern: how many, each the part between its two pointers. Assumes nothing.
-use Rattle.std.proofs.Common.{◌≡◌, ℕ, ◌+◌, ◌<◌, ◌≤◌, true, List, [], length, get_or, sym, ◌∙◌, arith}
+use Rattle.std.proofs.Common.{◌≡◌, ℕ, ◌+◌, ◌<◌, ◌≤◌, true, List, [], length, get_or, sym, refl, ◌∙◌, arith}
 use Rattle.lists.specs.Order.{rises}
-use Rattle.lists.specs.Parts.{part}
 use Rattle.lists.proofs.Parts.{length_part}
 use Rattle.lists.proofs.Tables.{length-table, get_or-table}
 use Rattle.cs_matrix.specs.Matrix.{Pattern, pattern, column, ValidPattern}
@@ -49,11 +48,14 @@ module _ {n : ℕ} {p i : List ℕ} (v : ValidPattern (pattern n n p i)) where
     pub here : Between p (length i) k a e
     here = between v.ptrs v.p_long h f g
 
-    pub part-is : part a e i ≡ get_or C k []
-    part-is = column-is here i ∙ sym (column-at (pattern n n p i) k h)
+  module _ {k : ℕ} {rows : List ℕ} (h : k < n) (r : rows ≡ column p k i) where
+    pub rows-are : rows ≡ get_or C k []
+    rows-are = r ∙ sym (column-at (pattern n n p i) k h)
 
-    pub part_few : length (part a e i) ≤ 4194304
-    part_few = omega (arith, length_part a e i here.inside, here.inside, v.entries)
+    pub rows_few : length rows ≤ 4194304
+    rows_few =
+        let b = here h refl refl in
+        rw (r, ← column-is b i) (omega (arith, length_part (get_or p k 0) (get_or p (k + 1) 0) i b.inside, b.inside, v.entries))
 
-    pub part-rises : rises (part a e i) ≡ true
-    part-rises = rw (column-is here i) (v.rise k h)
+    pub rows-rise : rises rows ≡ true
+    rows-rise = rw r (v.rise k h)

@@ -1,5 +1,5 @@
 // The analysis: tree, pointers and rows of U, pointers and rows of L.
-ghost use Rattle.std.specs.Prelude.{◌≡◌, ◌+◌, ◌≤◌, ◌||◌, nat_lt};
+ghost use Rattle.std.specs.Prelude.{◌≡◌, ◌+◌, ◌≤◌, ◌||◌, length, nat_lt};
 ghost use Rattle.lists.specs.Calls.{scratch, lent, leaves};
 ghost use Rattle.lists.specs.Keeping.{Kept};
 ghost use Rattle.lists.specs.Refusals.{numbered};
@@ -21,12 +21,22 @@ use lists::refusal::Refusal;
 use lists::sides::copy;
 use lists::sums::cumsum;
 
-// An output is shorter than needed, where U has t entries. The outputs are lent by `&mut`, so that their lengths are what is handed on.
-fn too_short(n: usize, t: usize, tree: usize, up: usize, ui: usize, lp: usize, li: usize) -> bool
+// An output is shorter than needed, where U has t entries.
+fn too_short(
+    n: usize,
+    t: usize,
+    tree: &[u32],
+    up: &[u32],
+    ui: &[u32],
+    lp: &[u32],
+    li: &[u32],
+) -> bool
     requires { n ≤ 65535 }
-    ensures { result ≡ (nat_lt tree n || nat_lt up (n + 1) || nat_lt ui t || nat_lt lp (n + 1) || nat_lt li t) }
+    ensures { result
+        ≡ (nat_lt (length tree.now) n || nat_lt (length up.now) (n + 1) || nat_lt (length ui.now) t
+        || nat_lt (length lp.now) (n + 1) || nat_lt (length li.now) t) }
 {
-    tree < n || up < n + 1 || ui < t || lp < n + 1 || li < t
+    tree.len() < n || up.len() < n + 1 || ui.len() < t || lp.len() < n + 1 || li.len() < t
 }
 
 // Writes the analysis to outputs that have room for its t entries.
@@ -83,7 +93,7 @@ pub fn analyse(
     prepare(a, w1, w2, w3, x)?;
     let n = a.ncols;
     let answer = match outline(a, w1, w2, w3) {
-        Some(t) if !too_short(n, t, tree.len(), up.len(), ui.len(), lp.len(), li.len()) => {
+        Some(t) if !too_short(n, t, tree, up, ui, lp, li) => {
             write(a, t, tree, up, ui, lp, li, w1, w2, w3);
             Ok(())
         }

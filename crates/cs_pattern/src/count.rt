@@ -11,6 +11,7 @@ ghost use Rattle.cs_pattern.specs.Columns.{columns};
 ghost use Rattle.cs_pattern.specs.Lent.{square_of};
 ghost use Rattle.cs_pattern.specs.Steps.{Counted};
 
+use crate::rows::rows;
 use cs_matrix::matrix::{MAX_ENTRIES, Pattern};
 use lists::numbers::wide;
 
@@ -23,6 +24,7 @@ fn count_walk(k: u32, row: u32, par: &[u32], mark: &mut [u32], counts: &mut [u32
     let stamp = k + 1;
     let mut i = wide(row);
     let mut len = 0;
+    // climbs by parents
     while i <= top {
         if mark[i] == stamp {
             return len;
@@ -64,12 +66,9 @@ pub fn count_rows(
         MatchOption result (4194304 < entries us) (Counted us counts.old counts.new)
         × Kept 0 a.entry.ncols counts.old counts.new }
 {
-    let Pattern { ncols: n, p, i, .. } = a;
     let mut total = 0;
-    for k in 0..n {
-        let start = wide(p[k]);
-        let end = wide(p[k + 1]);
-        total += count_column(k as u32, &i[start..end], par, mark, counts);
+    for k in 0..a.ncols {
+        total += count_column(k as u32, rows(a, k), par, mark, counts);
         if total > MAX_ENTRIES {
             return None;
         }

@@ -10,5 +10,6 @@ mod look;
 mod lower;
 mod quick;
 mod reach;
+mod rows;
 mod tree;
 mod upper;

@@ -13,6 +13,7 @@ ghost use Rattle.cs_pattern.specs.Lent.{square_of};
 ghost use Rattle.cs_pattern.specs.Steps.{Known};
 
 use crate::compare::Analysis;
+use crate::rows::rows;
 use crate::tree::elimination_tree;
 use cs_matrix::matrix::{MAX_ENTRIES, Pattern};
 use lists::clear::fill;
@@ -99,19 +100,16 @@ fn read_columns(a: Pattern<'_>, par: &[u32], mark: &mut [u32], up: &[u32], ui: &
     ensures { let cols = columns (square_of a.entry) in
         (result ≡ true → Holds cols up.now ui.now) × (Holds cols up.now ui.now → result ≡ true) }
 {
-    let Pattern { ncols: n, p, i, .. } = a;
     if up[0] != 0 {
         return false;
     }
-    for k in 0..n {
-        let start = wide(p[k]);
-        let end = wide(p[k + 1]);
+    for k in 0..a.ncols {
         let b = wide(up[k]);
         let f = wide(up[k + 1]);
         let Some(held) = ui.get(b..f) else {
             return false;
         };
-        if !read_column(k as u32, &i[start..end], par, mark, held) {
+        if !read_column(k as u32, rows(a, k), par, mark, held) {
             return false;
         }
     }

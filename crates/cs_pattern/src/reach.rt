@@ -18,6 +18,7 @@ fn trace(k: u32, s: u32, row: u32, par: &[u32], mark: &mut [u32], out: &mut [u32
     let stamp = s + 1;
     let mut c = row;
     let mut len = 0;
+    // climbs by parents
     while c <= k {
         let i = wide(c);
         if mark[i] == stamp {

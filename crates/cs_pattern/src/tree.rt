@@ -7,11 +7,12 @@ ghost use Rattle.cs_tree.specs.Tree.{forest, climbs, tree};
 ghost use Rattle.cs_pattern.specs.Columns.{columns};
 ghost use Rattle.cs_pattern.specs.Lent.{square_of};
 
+use crate::rows::rows;
 use cs_matrix::matrix::Pattern;
 use lists::clear::fill;
 use lists::numbers::wide;
 
-// In place of a parent, in the tree that callers are given.
+// No parent, in the tree that callers are given; in `anc`, no ancestor noted.
 const ROOT: u32 = u32::MAX;
 
 // Column k's part in the tree. The rows rise, so that the first that is not below k ends it.
@@ -25,6 +26,7 @@ fn tree_column(k: u32, rows: &[u32], par: &mut [u32], anc: &mut [u32])
         if i >= top {
             return;
         }
+        // climbs by the noted ancestors; document 01 names the form, a labelled loop left by break
         'climb: while i < top {
             let a = anc[i];
             anc[i] = k;
@@ -42,12 +44,10 @@ pub fn elimination_tree(a: Pattern<'_>, par: &mut [u32], anc: &mut [u32])
     requires { ValidPattern (square_of a) × (length par.old ≡ a.ncols) × (length anc.old ≡ a.ncols) }
     ensures { par.new ≡ tree (columns (square_of a.entry)) }
 {
-    let Pattern { ncols: n, p, i, .. } = a;
+    let n = a.ncols;
     fill(ROOT, n, par);
     fill(ROOT, n, anc);
     for k in 0..n {
-        let start = wide(p[k]);
-        let end = wide(p[k + 1]);
-        tree_column(k as u32, &i[start..end], par, anc);
+        tree_column(k as u32, rows(a, k), par, anc);
     }
 }

@@ -12,8 +12,8 @@ ghost use Rattle.cs_pattern.specs.Lent.{square_of};
 
 use crate::lower::lower_column;
 use crate::reach::lay;
+use crate::rows::rows;
 use cs_matrix::matrix::Pattern;
-use lists::numbers::wide;
 
 // The columns of U in ui and their pointers in up, and each entry put into L, from the last column to the first. U has t entries, and
 // next has where each column of L ends.
@@ -34,14 +34,12 @@ pub fn fill_columns(
         (up.new ≡ onto up.old (starts 0 (upper cols))) × (ui.new ≡ onto ui.old (flatten (upper cols)))
         × (li.new ≡ onto li.old (flatten (lower cols))) }
 {
-    let Pattern { ncols: n, p, i, .. } = a;
+    let n = a.ncols;
     up[n] = t as u32;
     let mut top = t;
     for k in (0..n).rev() {
         let s = n - k - 1;
-        let start = wide(p[k]);
-        let end = wide(p[k + 1]);
-        let low = lay(k as u32, s as u32, &i[start..end], par, mark, top, ui);
+        let low = lay(k as u32, s as u32, rows(a, k), par, mark, top, ui);
         lower_column(k as u32, &ui[low..top], next, li);
         up[k] = low as u32;
         top = low;

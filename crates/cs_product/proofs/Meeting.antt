@@ -16,13 +16,12 @@ use Rattle.lists.specs.Calls.{none}
 use Rattle.lists.specs.Entries.{plus_at}
 use Rattle.lists.specs.Folds.{over}
 use Rattle.lists.specs.Order.{lists, Once, no_more}
-use Rattle.lists.specs.Parts.{part}
 use Rattle.lists.proofs.Bools.{eq-or-ne, not-both, or-none, or-false}
 use Rattle.lists.proofs.Chosen.{chosen-within}
 use Rattle.lists.proofs.Folds.{Over, over-start, over-turn, over-end}
-use Rattle.lists.proofs.Parts.{part-below, length_part}
 use Rattle.cs_matrix.specs.Matrix.{Matrix, Valid}
-use Rattle.cs_matrix.proofs.Pointers.{Between, between, column-is}
+use Rattle.cs_columns.specs.Columns.{IsColumn}
+use Rattle.cs_columns.proofs.Handing.{column-alike, column-below}
 use Rattle.lists.proofs.Skipping.{lists_nowhere}
 use Rattle.cs_product.specs.Product.{add_column}
 use Rattle.cs_product.specs.Steps.{Met, Fresh, Adding, Starting}
@@ -187,15 +186,6 @@ module _ (a : Matrix) (stamp : ℕ) (rows : List ℕ) (vals : List Float) where
   abbrev ncols : ℕ
   ncols = a.pattern.ncols
 
-  abbrev p : List ℕ
-  p = a.pattern.p
-
-  abbrev i : List ℕ
-  i = a.pattern.i
-
-  abbrev v : List Float
-  v = a.v
-
   pub record Accumulating (x₀ : List Float) (mark met : List ℕ) (x : List Float) (many k : ℕ) : Type 0 where
     pub valid : Valid a
     pub alike : length vals ≡ length rows
@@ -220,37 +210,24 @@ module _ (a : Matrix) (stamp : ℕ) (rows : List ℕ) (vals : List Float) where
       pub col_below : c < ncols
       col_below = omega (arith, s.below k h)
 
-      pub col_in_p : c + 1 < length p
-      col_in_p = omega (arith, col_below, s.valid.pattern.p_long)
-
-      pub in-values : k < length vals
-      in-values = omega (arith, s.alike)
-
-      module _ {b e : ℕ} (f : b ≡ get_or p c 0) (g : e ≡ get_or p (c + 1) 0) where
-        pub handed : Between p (length i) c b e
-        handed = between s.valid.pattern.ptrs s.valid.pattern.p_long col_below f g
-
-        pub in_v : e ≤ length v
-        in_v = omega (arith, handed.inside, s.valid.v_long)
-
-        pub accumulating_asks : Adding nrows stamp (part b e i) (part b e v) mark met x many
-        accumulating_asks = record {
-          alike = omega (arith, length_part b e v in_v, length_part b e i handed.inside);
-          below = part-below b e nrows i handed.inside s.valid.pattern.below;
+      module _ {us : List ℕ} {ys : List Float} (d : IsColumn a c us ys) where
+        pub accumulating_asks : Adding (length x) stamp us ys mark met x many
+        accumulating_asks = rw s.met_now.x_long (record {
+          alike = column-alike s.valid col_below d;
+          below = column-below s.valid col_below d;
           met_so_far = s.met_now;
-        }
+        })
 
-        pub accumulating_turn : {mark' met' : List ℕ} {x' : List Float} {next : ℕ} →
-            x' ≡ over (plus_at (get_or vals k nan)) (part b e i) (part b e v) x → Met nrows stamp mark' met' x' next →
-            Accumulating x₀ mark' met' x' next (k + 1)
+        pub accumulating_turn : {mark' met' : List ℕ} {x' : List Float} {next : ℕ} → x' ≡ over (plus_at (get_or vals k nan)) us ys x →
+            Met (length x) stamp mark' met' x' next → Accumulating x₀ mark' met' x' next (k + 1)
         unfolding add_column
         accumulating_turn q m =
             record {
               valid = s.valid;
               alike = s.alike;
               below = s.below;
-              met_now = m;
-              is = over-turn (add_column a) rows vals 0 nan s.alike s.is h (q ∙ (rw (column-is handed i, column-is handed v, ec)));
+              met_now = rw s.met_now.x_long at m;
+              is = over-turn (add_column a) rows vals 0 nan s.alike s.is h (q ∙ (rw (d.rows_are, d.vals_are, ec)));
             }
 
 pub x_long : {n stamp : ℕ} {mark met : List ℕ} {x : List Float} → Fresh n stamp mark met x → length x ≡ n

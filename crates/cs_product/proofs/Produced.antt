@@ -15,14 +15,13 @@ use Rattle.lists.proofs.Bools.{not_holds, passed_over}
 use Rattle.lists.proofs.Calls.{first, then, early, kept, left_alone, left-written, wiped_each, not_narrow}
 use Rattle.lists.proofs.Clearing.{length-cleared, cleared-front, cleared-again}
 use Rattle.lists.proofs.Laying.{part_long}
-use Rattle.lists.proofs.Parts.{length_part}
 use Rattle.lists.proofs.Returning.{front-zeros, cleared-after}
 use Rattle.lists.proofs.Tables.{length-table}
 use Rattle.cs_matrix.specs.Matrix.{Matrix, Stored, stored, short, written, Valid}
-use Rattle.cs_matrix.proofs.Pointers.{Between, between, column-is, get_or-column}
-use Rattle.cs_columns.specs.Columns.{joined, with_columns, with_entries, laid, judged_two, short_for}
+use Rattle.cs_columns.specs.Columns.{IsColumn, joined, with_columns, with_entries, laid, judged_two, short_for}
 use Rattle.cs_columns.proofs.Filling.{Filling, filling_start, filling_turn, filling_end, filling_at, filling_i, filling_v, room_i, room_v, room_p}
 use Rattle.cs_columns.proofs.Filling.{room-all}
+use Rattle.cs_columns.proofs.Handing.{column-alike, column-few, column-below}
 use Rattle.cs_columns.proofs.Joining.{joined-none, length_more, joined_alike, entries-within, entries_valid}
 use Rattle.cs_columns.proofs.Judging.{alone_7, early_two, Passed, passed, Roomy, roomy, short_fewer, short_for_lem}
 use Rattle.cs_product.specs.Product.{accumulated, remains, row_of, value_of, product, needed_two, number}
@@ -55,40 +54,26 @@ module _ (a b : Matrix) where
   unfolding size
   size_is = refl
 
-  -- ---- the parts of B that are handed on
-  module _ (both : Factors a b) {j s e : ℕ} (h : j < bncols) (f : s ≡ get_or bp j 0) (g : e ≡ get_or bp (j + 1) 0) where
-    handed : Between bp (length bi) j s e
-    handed = between both.second.pattern.ptrs both.second.pattern.p_long h f g
+  -- ---- a column of B, handed on
+  module _ (both : Factors a b) {j : ℕ} (h : j < bncols) {us : List ℕ} {ys : List Float} (d : IsColumn b j us ys) where
+    below : (q : ℕ) → q < length us → get_or us q 0 < a.pattern.ncols
+    below = rw both.inner (column-below both.second h d)
 
-    in_bv : e ≤ length bv
-    in_bv = omega (arith, handed.inside, both.second.v_long)
+    few : length us ≤ 4194304
+    few = omega (arith, column-few both.second h d, both.second.pattern.entries)
 
-    column-below : (q : ℕ) → q < length (part s e bi) → get_or (part s e bi) q 0 < a.pattern.ncols
-    column-below q l =
-        let n = length_part s e bi handed.inside in
-        rw (column-is handed bi, get_or-column bp j bi q 0 (omega (arith, n, f, g)), both.inner)
-        (both.second.pattern.below (get_or bp j 0 + q) (omega (arith, n, f, g, handed.inside)))
+    starting : {stamp : ℕ} {mark met : List ℕ} {x : List Float} → Fresh nrows stamp mark met x → Starting a stamp us ys mark met x
+    starting r = record { valid = both.first; alike = column-alike both.second h d; few = few; below = below; fresh = r }
 
-    starting : {stamp : ℕ} {mark met : List ℕ} {x : List Float} → Fresh nrows stamp mark met x →
-        Starting a stamp (part s e bi) (part s e bv) mark met x
-    starting r = record {
-      valid = both.first;
-      alike = omega (arith, length_part s e bv in_bv, length_part s e bi handed.inside);
-      few = omega (arith, length_part s e bi handed.inside, handed.inside, both.second.pattern.entries);
-      below = column-below;
-      fresh = r;
-    }
-
-    column-same : column_of a (part s e bi) (part s e bv) ≡ accumulated a b j
+    column-same : column_of a us ys ≡ accumulated a b j
     unfolding column_of accumulated
-    column-same = rw (column-is handed bi, column-is handed bv)
+    column-same = rw (d.rows_are, d.vals_are)
 
-    rows_are : chosen nrows (remains (column_of a (part s e bi) (part s e bv))) ≡ rows j
+    rows_are : chosen nrows (remains (column_of a us ys)) ≡ rows j
     unfolding row_of
     rows_are = cong (λ (w : List Float). chosen nrows (remains w)) column-same
 
-    vals_are : map (λ (r : ℕ). get_or (column_of a (part s e bi) (part s e bv)) r nan)
-        (chosen nrows (remains (column_of a (part s e bi) (part s e bv)))) ≡ vals j
+    vals_are : map (λ (r : ℕ). get_or (column_of a us ys) r nan) (chosen nrows (remains (column_of a us ys))) ≡ vals j
     unfolding row_of value_of
     vals_are = cong (λ (w : List Float). map (λ (r : ℕ). get_or w r nan) (chosen nrows (remains w))) column-same
 
@@ -102,19 +87,13 @@ module _ (a b : Matrix) where
   tallying_start v = record { begun = v; within = omega arith; is = sym (cong length (joined-none rows)) }
 
   module _ {mark met : List ℕ} {x : List Float} {entries j : ℕ} (t : Tallying mark met x entries j) where
-    module _ (h : j < bncols) {s e : ℕ} (f : s ≡ get_or bp j 0) (g : e ≡ get_or bp (j + 1) 0) where
-      pub tallying_handed : Between bp (length bi) j s e
-      tallying_handed = handed t.begun.factors h f g
+    module _ (h : j < bncols) {us : List ℕ} {ys : List Float} (d : IsColumn b j us ys) where
+      pub tallying_asks : Starting a (j + 1) us ys mark met x
+      tallying_asks = starting t.begun.factors h d t.begun.fresh
 
-      pub tallying_bv : e ≤ length bv
-      tallying_bv = in_bv t.begun.factors h f g
-
-      pub tallying_asks : Starting a (j + 1) (part s e bi) (part s e bv) mark met x
-      tallying_asks = starting t.begun.factors h f g t.begun.fresh
-
-      module _ {r : ℕ} (k : r ≡ length (chosen nrows (remains (column_of a (part s e bi) (part s e bv))))) where
+      module _ {r : ℕ} (k : r ≡ length (chosen nrows (remains (column_of a us ys)))) where
         next : entries + r ≡ length (joined rows (j + 1))
-        next = omega (arith, t.is, k, cong length (rows_are t.begun.factors h f g), length_more rows j)
+        next = omega (arith, t.is, k, cong length (rows_are t.begun.factors h d), length_more rows j)
 
         pub tallying_small : entries + r ≤ 4294901760
         tallying_small = omega (
@@ -145,19 +124,11 @@ module _ (a b : Matrix) where
   bounding_start v = record { ask = v; within = omega arith; enough = omega (arith, cong length (joined-none rows)); small = omega arith }
 
   module _ {most j : ℕ} (t : Bounding most j) where
-    module _ (h : j < bncols) {s e : ℕ} (f : s ≡ get_or bp j 0) (g : e ≡ get_or bp (j + 1) 0) where
-      pub bounding_handed : Between bp (length bi) j s e
-      bounding_handed = handed t.ask h f g
+    module _ (h : j < bncols) {us : List ℕ} {ys : List Float} (d : IsColumn b j us ys) where
+      pub bounding_asks : Within a.pattern us
+      bounding_asks = record { valid = t.ask.first.pattern; few = few t.ask h d; below = below t.ask h d }
 
-      pub bounding_asks : Within a.pattern (part s e bi)
-      bounding_asks =
-          record {
-            valid = t.ask.first.pattern;
-            few = omega (arith, length_part s e bi bounding_handed.inside, bounding_handed.inside, t.ask.second.pattern.entries);
-            below = column-below t.ask h f g;
-          }
-
-      module _ {lo hi work : ℕ} (q : Spanned a.pattern (part s e bi) lo hi work) {r : ℕ} (m : r ≡ min (hi - lo) work) where
+      module _ {lo hi work : ℕ} (q : Spanned a.pattern us lo hi work) {r : ℕ} (m : r ≡ min (hi - lo) work) where
         r_small : r ≤ 65535
         r_small = omega (arith, q.inside, t.ask.first.pattern.rows)
 
@@ -166,15 +137,11 @@ module _ (a b : Matrix) where
 
         pub bounding_turn : Bounding (most + r) (j + 1)
         bounding_turn =
-            let w = column_few a q (part s e bv) (omega (
-              arith,
-              length_part s e bv (in_bv t.ask h f g),
-              length_part s e bi bounding_handed.inside,
-            )) in
+            let w = column_few a q ys (column-alike t.ask.second h d) in
             record {
               ask = t.ask;
               within = omega arith;
-              enough = omega (arith, w, t.enough, cong length (rows_are t.ask h f g), length_more rows j);
+              enough = omega (arith, w, t.enough, cong length (rows_are t.ask h d), length_more rows j);
               small = omega (arith, r_small, t.small);
             }
 
@@ -244,18 +211,12 @@ module _ (a b : Matrix) where
     pub writing_v : length ov ≡ length ov₀
     writing_v = filling_v nrows bncols rows vals w.filling
 
-    module _ (h : j < bncols) {s e : ℕ} (f : s ≡ get_or bp j 0) (g : e ≡ get_or bp (j + 1) 0) where
-      pub writing_handed : Between bp (length bi) j s e
-      writing_handed = handed w.begun.factors h f g
-
-      pub writing_bv : e ≤ length bv
-      writing_bv = in_bv w.begun.factors h f g
-
-      pub writing_asks : Column a (j + 1) (part s e bi) (part s e bv) at mark met spare x oi ov
+    module _ (h : j < bncols) {us : List ℕ} {ys : List Float} (d : IsColumn b j us ys) where
+      pub writing_asks : Column a (j + 1) us ys at mark met spare x oi ov
       writing_asks =
-          let r = rows_are w.begun.factors h f g in
+          let r = rows_are w.begun.factors h d in
           record {
-            starting = starting w.begun.factors h f g w.begun.fresh;
+            starting = starting w.begun.factors h d w.begun.fresh;
             spare_long = w.spare_long;
             few = rw r (omega (arith, room-all nrows bncols rows vals w.filling h, w.few));
             in_i = rw r (room_i nrows bncols rows vals w.filling h);
@@ -263,13 +224,13 @@ module _ (a b : Matrix) where
           }
 
       pub writing_turn : {r : ℕ} {mark' met' spare' : List ℕ} {x' : List Float} {oi' : List ℕ} {ov' : List Float} → length spare' ≡ length spare
-          → r ≡ at + length (chosen nrows (remains (column_of a (part s e bi) (part s e bv))))
-          → oi' ≡ laid at oi (chosen nrows (remains (column_of a (part s e bi) (part s e bv))))
-          → ov' ≡ laid at ov (map (λ (q : ℕ). get_or (column_of a (part s e bi) (part s e bv)) q nan)
-          (chosen nrows (remains (column_of a (part s e bi) (part s e bv)))))
+          → r ≡ at + length (chosen nrows (remains (column_of a us ys)))
+          → oi' ≡ laid at oi (chosen nrows (remains (column_of a us ys)))
+          → ov' ≡ laid at ov (map (λ (q : ℕ). get_or (column_of a us ys) q nan)
+          (chosen nrows (remains (column_of a us ys))))
           → Fresh nrows (j + 1 + 1) mark' met' x' → Writing op₀ oi₀ ov₀ mark' met' spare' x' (set op j at) oi' ov' r (j + 1)
       writing_turn z k l m u =
-          let r = rows_are w.begun.factors h f g in
+          let r = rows_are w.begun.factors h d in
           record {
             begun = record { factors = w.begun.factors; fresh = u };
             spare_long = z ∙ w.spare_long;
@@ -278,7 +239,7 @@ module _ (a b : Matrix) where
                 filling_turn nrows bncols rows vals w.filling h
                 (k ∙ cong (λ (q : List ℕ). at + length q) r)
                 (l ∙ cong (laid at oi) r)
-                (m ∙ cong (laid at ov) (vals_are w.begun.factors h f g));
+                (m ∙ cong (laid at ov) (vals_are w.begun.factors h d));
           }
 
     pub writing_done : bncols ≤ j → stored (set op bncols at) oi ov ≡ written (product a b) (stored op₀ oi₀ ov₀)

@@ -16,6 +16,7 @@ use Rattle.lists.proofs.Chosen.{chosen_alike, chosen_rising, keep-chosen}
 use Rattle.lists.proofs.Laying.{part-front, part-onto, placed-front}
 use Rattle.lists.proofs.Ordering.{rising_once}
 use Rattle.lists.proofs.Parts.{length-placed}
+use Rattle.lists.proofs.Skipping.{chosen-rest, lists_nowhere}
 use Rattle.cs_matrix.specs.Matrix.{Matrix}
 use Rattle.cs_columns.specs.Columns.{laid}
 use Rattle.cs_product.specs.Product.{add_column, remains}
@@ -68,12 +69,21 @@ module _ {n stamp : ℕ} {mark met : List ℕ} {x : List Float} {many : ℕ} (m 
   next_fresh e f = record { small = m.small; mark_long = m.mark_long; met_long = e; unmarked = λ r h. omega (arith, m.most r h); zeros = f }
 
   -- ---- sorted
-  pub loose : {spare : List ℕ} → length spare ≡ n → Loose n (part 0 many met) spare
-  loose e = rw (part-front many met) (record { small = m.small; once = m.once; below = rows_below; room = omega (arith, rows_long, m.within) })
+  pub loose : {spare : List ℕ} → length spare ≡ n → Loose 65535 (part 0 many met) spare
+  loose e = rw (part-front many met) (record {
+    small = omega arith;
+    once = m.once;
+    below = λ k h. omega (arith, m.small, rows_below k h);
+    room = omega (arith, rows_long, m.within);
+  })
 
-  module _ {y met' : List ℕ} (e : y ≡ in_order n (part 0 many met)) (f : met' ≡ placed 0 many met y) where
+  fewer : in_order 65535 rows ≡ in_order n rows
+  unfolding in_order
+  fewer = chosen-rest (λ r. lists r rows) n 65535 m.small (λ r h k. lists_nowhere r rows (λ q l e. absurd (omega (arith, rows_below q l))))
+
+  module _ {y met' : List ℕ} (e : y ≡ in_order 65535 (part 0 many met)) (f : met' ≡ placed 0 many met y) where
     y_is : y ≡ in_order n rows
-    y_is = e ∙ ap (in_order n) (part-front many met)
+    y_is = e ∙ ap (in_order 65535) (part-front many met) ∙ fewer
 
     y_long : length y ≡ many
     y_long = rw y_is (order_long n rows m.once rows_below ∙ rows_long)
@@ -121,21 +131,32 @@ module _ {a : Matrix} {stamp : ℕ} {rows : List ℕ} {vals : List Float} {mark 
   unfolding column_of
   x_is = e ∙ ap (over (add_column a) rows vals) s.fresh.zeros
 
-  pub column-counted : {r : ℕ} {x₂ : List Float} → r ≡ length (keep (remains x') (part 0 many met')) → x₂ ≡ replicate a.pattern.nrows none
+  -- x is as long as a column
+  zeros : replicate (length x') none ≡ replicate a.pattern.nrows none
+  zeros = ap (λ (k : ℕ). replicate k none) m.x_long
+
+  pub column-drain : Drain (length x') (part 0 many met') x'
+  column-drain = rw m.x_long (drain m)
+
+  pub column-counted : {r : ℕ} {x₂ : List Float} → r ≡ length (keep (remains x') (part 0 many met')) → x₂ ≡ replicate (length x') none
       → (r ≡ length (chosen a.pattern.nrows (remains (column_of a rows vals)))) × Fresh a.pattern.nrows (stamp + 1) mark' met' x₂
-  column-counted f g = (f ∙ count_is m ∙ ap (λ (w : List Float). length (chosen a.pattern.nrows (remains w))) x_is, next_fresh m m.met_long g)
+  column-counted f g = (
+    f ∙ count_is m ∙ ap (λ (w : List Float). length (chosen a.pattern.nrows (remains w))) x_is,
+    next_fresh m m.met_long
+        (g ∙ zeros),
+  )
 
   module _ {start : ℕ} {spare oi : List ℕ} {ov : List Float} (c : Column a stamp rows vals start mark met spare x oi ov) {y met₂ : List ℕ}
-      (f : y ≡ in_order a.pattern.nrows (part 0 many met')) (g : met₂ ≡ placed 0 many met' y) where
-    pub column_taking : Taking a.pattern.nrows start (part 0 many met₂) x' oi ov
-    column_taking = taking m f g (rw x_is c.few) (rw x_is c.in_i) (rw x_is c.in_v)
+      (f : y ≡ in_order 65535 (part 0 many met')) (g : met₂ ≡ placed 0 many met' y) where
+    pub column_taking : Taking (length x') start (part 0 many met₂) x' oi ov
+    column_taking = rw m.x_long (taking m f g (rw x_is c.few) (rw x_is c.in_i) (rw x_is c.in_v))
 
     l_is : keep (remains x') (part 0 many met₂) ≡ chosen a.pattern.nrows (remains (column_of a rows vals))
     l_is = kept-rows m f g ∙ ap (λ (w : List Float). chosen a.pattern.nrows (remains w)) x_is
 
     pub column-written : {r : ℕ} {oi₂ : List ℕ} {ov₂ x₂ : List Float} → r ≡ start + length (keep (remains x') (part 0 many met₂)) →
         oi₂ ≡ laid start oi (keep (remains x') (part 0 many met₂))
-        → ov₂ ≡ laid start ov (values_of a.pattern.nrows start rows x' (keep (remains x') (part 0 many met₂))) → x₂ ≡ replicate a.pattern.nrows none
+        → ov₂ ≡ laid start ov (values_of (length x') start rows x' (keep (remains x') (part 0 many met₂))) → x₂ ≡ replicate (length x') none
         → (let w = column_of a rows vals in let l = chosen a.pattern.nrows (remains w) in
         (r ≡ start + length l) × (oi₂ ≡ laid start oi l) × (ov₂ ≡ laid start ov (map (λ (j : ℕ). get_or w j nan) l)) ×
         Fresh a.pattern.nrows (stamp + 1) mark' met₂ x₂)
@@ -143,5 +164,5 @@ module _ {a : Matrix} {stamp : ℕ} {rows : List ℕ} {vals : List Float} {mark 
       p ∙ ap (λ (l : List ℕ). start + length l) l_is,
       q ∙ ap (laid start oi) l_is,
       t ∙ (rw (l_is, x_is)),
-      next_fresh m (met_long m f g) u,
+      next_fresh m (met_long m f g) (u ∙ zeros),
     )

@@ -177,27 +177,30 @@ module _ {a : Matrix} {rows : List ℕ} {vals : List Float} {lo hi start : ℕ} 
   unfolding column_of
   x_is = e ∙ ap (over (add_column a) rows vals) d.zeros
 
-  pub dense_asks : Swept a.pattern.nrows lo hi start x' oi ov
+  long : length x' ≡ a.pattern.nrows
+  long = m ∙ d.plain.x_long
+
+  pub dense_asks : Swept (length x') lo hi start x' oi ov
   dense_asks =
-      record {
+      rw long (record {
         small = d.plain.valid.pattern.rows;
         order = d.spanned.order;
         inside = d.spanned.inside;
-        x_long = m ∙ d.plain.x_long;
+        x_long = long;
         below = λ r h. rw x_is (none_below a d.spanned vals r h);
         behind = λ r h g. rw x_is (none_behind a d.spanned vals r h g);
         few = rw x_is d.few;
         in_i = rw x_is d.in_i;
         in_v = rw x_is d.in_v;
-      }
+      })
 
   pub dense_written : {r : ℕ} {oi₂ : List ℕ} {ov₂ x₂ : List Float}
-      → (r ≡ start + length (chosen a.pattern.nrows (remains x'))) × (oi₂ ≡ laid start oi (chosen a.pattern.nrows (remains x')))
-      × (ov₂ ≡ laid start ov (map (λ (j : ℕ). get_or x' j nan) (chosen a.pattern.nrows (remains x')))) × (x₂ ≡ replicate a.pattern.nrows none)
+      → (r ≡ start + length (chosen (length x') (remains x'))) × (oi₂ ≡ laid start oi (chosen (length x') (remains x')))
+      × (ov₂ ≡ laid start ov (map (λ (j : ℕ). get_or x' j nan) (chosen (length x') (remains x')))) × (x₂ ≡ replicate (length x') none)
       → (let w = column_of a rows vals in let l = chosen a.pattern.nrows (remains w) in
       (r ≡ start + length l) × (oi₂ ≡ laid start oi l) × (ov₂ ≡ laid start ov (map (λ (j : ℕ). get_or w j nan) l)) ×
       (x₂ ≡ replicate a.pattern.nrows none))
-  dense_written t = rw x_is at t
+  dense_written t = let u = rw long at t in rw x_is at u
 
 -- ---- `write_column`
 module _ {a : Matrix} {stamp : ℕ} {rows : List ℕ} {vals : List Float} {start : ℕ} {mark met spare : List ℕ} {x : List Float} {oi : List ℕ}

@@ -1,18 +1,18 @@
 // One column of the product, in x. A row that is met first is marked with the column's stamp and listed in `met`, so that only those
 // rows are looked at afterwards.
-ghost use Rattle.std.specs.Prelude.{◌≡◌};
+ghost use Rattle.std.specs.Prelude.{◌≡◌, length};
 ghost use Rattle.lists.specs.Entries.{plus_at};
 ghost use Rattle.lists.specs.Folds.{over};
 ghost use Rattle.cs_matrix.specs.Lent.{matrix_of};
 ghost use Rattle.cs_product.specs.Product.{add_column};
 ghost use Rattle.cs_product.specs.Steps.{Met, Adding, Starting};
 
-use cs_matrix::matrix::{Matrix, Pattern};
+use crate::column::column;
+use cs_matrix::matrix::Matrix;
 use lists::numbers::wide;
 
 // A column of A times β, added to x. The answer is how many rows are met now.
 fn add_column(
-    n: usize,
     stamp: u32,
     beta: f64,
     rows: &[u32],
@@ -22,8 +22,8 @@ fn add_column(
     x: &mut [f64],
     count: usize,
 ) -> usize
-    requires { Adding n stamp rows.now vals.now mark.old met.old x.old count }
-    ensures { (x.new ≡ over (plus_at beta) rows.now vals.now x.old) × Met n stamp mark.new met.new x.new result }
+    requires { Adding (length x.old) stamp rows.now vals.now mark.old met.old x.old count }
+    ensures { (x.new ≡ over (plus_at beta) rows.now vals.now x.old) × Met (length x.old) stamp mark.new met.new x.new result }
 {
     let mut many = count;
     for (&row, &val) in rows.iter().zip(vals) {
@@ -52,24 +52,11 @@ pub fn accumulate(
     ensures { (x.new ≡ over (add_column (matrix_of a.entry)) rows.now vals.now x.old) ×
         Met a.entry.pattern.nrows stamp mark.new met.new x.new result }
 {
-    let Matrix { pattern, v } = a;
-    let Pattern { nrows, p, i, .. } = pattern;
     let mut many = 0;
     for (&col, &val) in rows.iter().zip(vals) {
         let c = wide(col);
-        let start = wide(p[c]);
-        let end = wide(p[c + 1]);
-        many = add_column(
-            nrows,
-            stamp,
-            val,
-            &i[start..end],
-            &v[start..end],
-            mark,
-            met,
-            x,
-            many,
-        );
+        let (a_rows, a_vals) = column(a, c);
+        many = add_column(stamp, val, a_rows, a_vals, mark, met, x, many);
     }
     many
 }

@@ -32,7 +32,7 @@ pub fn count_column(
         (result ≡ length (chosen a.entry.pattern.nrows (remains w))) × Fresh a.entry.pattern.nrows (stamp + 1) mark.new met.new x.new }
 {
     let many = accumulate(a, stamp, rows, vals, mark, met, x);
-    count_remaining(a.pattern.nrows, &met[0..many], x)
+    count_remaining(&met[0..many], x)
 }
 
 // What remains of the column, by the rows that were met, put in order.
@@ -56,8 +56,8 @@ fn write_listed(
         Fresh a.entry.pattern.nrows (stamp + 1) mark.new met.new x.new }
 {
     let many = accumulate(a, stamp, rows, vals, mark, met, x);
-    sort(a.pattern.nrows, &mut met[0..many], spare);
-    gather(a.pattern.nrows, start, &met[0..many], x, oi, ov)
+    sort(&mut met[0..many], spare);
+    gather(start, &met[0..many], x, oi, ov)
 }
 
 // What remains of the column, by its span.
@@ -78,7 +78,7 @@ fn write_dense(
         (x.new ≡ replicate a.entry.pattern.nrows none) }
 {
     accumulate_plain(a, rows, vals, x);
-    sweep(a.pattern.nrows, span.lo, span.hi, start, x, oi, ov)
+    sweep(span.lo, span.hi, start, x, oi, ov)
 }
 
 // The rows of the column that remain and their values, written from `start` on. The answer is the place behind them.

@@ -10,9 +10,9 @@ ghost use Rattle.cs_product.specs.Steps.{Drain, Taking};
 use lists::numbers::wide;
 
 // How many remain.
-pub fn count_remaining(n: usize, rows: &[u32], x: &mut [f64]) -> usize
-    requires { Drain n rows.now x.old }
-    ensures { (result ≡ length (keep (remains x.old) rows.now)) × (x.new ≡ replicate n none) }
+pub fn count_remaining(rows: &[u32], x: &mut [f64]) -> usize
+    requires { Drain (length x.old) rows.now x.old }
+    ensures { (result ≡ length (keep (remains x.old) rows.now)) × (x.new ≡ replicate (length x.old) none) }
 {
     let mut count = 0;
     for &row in rows {
@@ -26,18 +26,11 @@ pub fn count_remaining(n: usize, rows: &[u32], x: &mut [f64]) -> usize
 }
 
 // Those that remain with their values, written from `start` on. The answer is the place behind them.
-pub fn gather(
-    n: usize,
-    start: usize,
-    rows: &[u32],
-    x: &mut [f64],
-    oi: &mut [u32],
-    ov: &mut [f64],
-) -> usize
-    requires { Taking n start rows.now x.old oi.old ov.old }
+pub fn gather(start: usize, rows: &[u32], x: &mut [f64], oi: &mut [u32], ov: &mut [f64]) -> usize
+    requires { Taking (length x.old) start rows.now x.old oi.old ov.old }
     ensures { let w = x.old in let l = keep (remains w) rows.now in
         (result ≡ start + length l) × (oi.new ≡ laid start oi.old l) × (ov.new ≡ laid start ov.old (map (λ j. get_or w j nan) l)) ×
-        (x.new ≡ replicate n none) }
+        (x.new ≡ replicate (length x.old) none) }
 {
     let mut at = start;
     for &row in rows {

@@ -2,6 +2,7 @@
 #![tactic(auto)]
 
 mod accumulate;
+mod column;
 mod columns;
 mod gather;
 mod plain;

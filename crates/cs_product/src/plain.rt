@@ -7,7 +7,8 @@ ghost use Rattle.cs_matrix.specs.Lent.{matrix_of};
 ghost use Rattle.cs_product.specs.Product.{add_column};
 ghost use Rattle.cs_product.specs.Steps.{Plain};
 
-use cs_matrix::matrix::{Matrix, Pattern};
+use crate::column::column;
+use cs_matrix::matrix::Matrix;
 use lists::numbers::wide;
 use lists::sides::add_times;
 use lists::tight::tight;
@@ -42,12 +43,9 @@ pub fn accumulate_plain(a: Matrix<'_>, rows: &[u32], vals: &[f64], x: &mut [f64]
     requires { Plain (matrix_of a) rows.now vals.now x.old }
     ensures { x.new ≡ over (add_column (matrix_of a.entry)) rows.now vals.now x.old }
 {
-    let Matrix { pattern, v } = a;
-    let Pattern { p, i, .. } = pattern;
     for (&col, &val) in rows.iter().zip(vals) {
         let c = wide(col);
-        let start = wide(p[c]);
-        let end = wide(p[c + 1]);
-        add_plain(val, &i[start..end], &v[start..end], x);
+        let (a_rows, a_vals) = column(a, c);
+        add_plain(val, a_rows, a_vals, x);
     }
 }

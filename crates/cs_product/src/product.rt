@@ -7,12 +7,12 @@ ghost use Rattle.cs_matrix.specs.Matrix.{stored, short, written, Valid};
 ghost use Rattle.cs_product.specs.Product.{product as productOf, needed_two, number};
 ghost use Rattle.cs_product.specs.Steps.{Ready, Clean};
 
+use crate::column::column;
 use crate::columns::write_column;
 use crate::room::check_room;
 use cs_columns::judge::check_two;
 use cs_matrix::matrix::{Matrix, Pattern};
 use lists::clear::{self, clear_scratch, too_narrow};
-use lists::numbers::wide;
 use lists::refusal::Refusal;
 
 // The product, into outputs that have room.
@@ -31,18 +31,16 @@ fn fill(
     ensures { stored op.new oi.new ov.new
         ≡ written (productOf (matrix_of a.entry) (matrix_of b.entry)) (stored op.old oi.old ov.old) }
 {
-    let Matrix { pattern, v } = b;
-    let Pattern { ncols, p, i, .. } = pattern;
+    let ncols = b.pattern.ncols;
     let mut at = 0;
     for j in 0..ncols {
         op[j] = at as u32;
-        let start = wide(p[j]);
-        let end = wide(p[j + 1]);
+        let (rows, vals) = column(b, j);
         at = write_column(
             a,
             (j + 1) as u32,
-            &i[start..end],
-            &v[start..end],
+            rows,
+            vals,
             at,
             mark,
             met,

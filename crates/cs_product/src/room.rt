@@ -6,11 +6,11 @@ ghost use Rattle.cs_matrix.specs.Lent.{matrix_of};
 ghost use Rattle.cs_columns.specs.Columns.{short_for};
 ghost use Rattle.cs_product.specs.Steps.{size, Fresh, Factors, Begun};
 
+use crate::column::column;
 use crate::columns::count_column;
 use crate::span::span_of;
 use cs_columns::judge::no_room;
-use cs_matrix::matrix::{Matrix, Pattern};
-use lists::numbers::wide;
+use cs_matrix::matrix::Matrix;
 use lists::refusal::Refusal;
 
 // No fewer than the entries that remain: of each column the length of its span or its work, whichever is smaller.
@@ -18,12 +18,10 @@ fn bound(a: Matrix<'_>, b: Matrix<'_>) -> usize
     requires { Factors (matrix_of a) (matrix_of b) }
     ensures { size (matrix_of a.entry) (matrix_of b.entry) ≤ result }
 {
-    let Pattern { ncols, p, i, .. } = b.pattern;
     let mut most = 0;
-    for j in 0..ncols {
-        let start = wide(p[j]);
-        let end = wide(p[j + 1]);
-        let span = span_of(a.pattern, &i[start..end]);
+    for j in 0..b.pattern.ncols {
+        let (cols, _) = column(b, j);
+        let span = span_of(a.pattern, cols);
         most += (span.hi - span.lo).min(span.work);
     }
     most
@@ -36,21 +34,10 @@ fn count(a: Matrix<'_>, b: Matrix<'_>, mark: &mut [u32], met: &mut [u32], x: &mu
         let b = matrix_of b.entry in
         (result ≡ size a b) × Fresh a.pattern.nrows (b.pattern.ncols + 1) mark.new met.new x.new }
 {
-    let Matrix { pattern, v } = b;
-    let Pattern { ncols, p, i, .. } = pattern;
     let mut entries = 0;
-    for j in 0..ncols {
-        let start = wide(p[j]);
-        let end = wide(p[j + 1]);
-        entries += count_column(
-            a,
-            (j + 1) as u32,
-            &i[start..end],
-            &v[start..end],
-            mark,
-            met,
-            x,
-        );
+    for j in 0..b.pattern.ncols {
+        let (rows, vals) = column(b, j);
+        entries += count_column(a, (j + 1) as u32, rows, vals, mark, met, x);
     }
     entries
 }

@@ -9,7 +9,6 @@ ghost use Rattle.cs_product.specs.Steps.{Swept};
 
 // The rows from lo on and below hi that remain and their values, written from `start` on. The answer is the place behind them.
 pub fn sweep(
-    n: usize,
     lo: usize,
     hi: usize,
     start: usize,
@@ -17,10 +16,10 @@ pub fn sweep(
     oi: &mut [u32],
     ov: &mut [f64],
 ) -> usize
-    requires { Swept n lo hi start x.old oi.old ov.old }
-    ensures { let w = x.old in let l = chosen n (remains w) in
+    requires { Swept (length x.old) lo hi start x.old oi.old ov.old }
+    ensures { let w = x.old in let l = chosen (length w) (remains w) in
         (result ≡ start + length l) × (oi.new ≡ laid start oi.old l) × (ov.new ≡ laid start ov.old (map (λ j. get_or w j nan) l)) ×
-        (x.new ≡ replicate n none) }
+        (x.new ≡ replicate (length x.old) none) }
 {
     let mut at = start;
     for r in lo..hi {

@@ -58,10 +58,10 @@ module _ {n : ℕ} {l m : List ℕ} {count ka kb : ℕ} (v : Counting n l m coun
       count_is = omega (arith, one_longer v.found s, v.count_is);
     }
 
-    pub counting_both : r ≤ s → s ≤ r → (ka < length l) ⊎ (kb < length m) → Counting n l m (count + 1) (ka + 1) (kb + 1)
-    counting_both g h o = record {
+    pub counting_both : r ≡ s → (ka < length l) ⊎ (kb < length m) → Counting n l m (count + 1) (ka + 1) (kb + 1)
+    counting_both h o = record {
       found = v.found ++ (r ∷ []);
-      merging = merging_both v.merging er es (omega arith) o;
+      merging = merging_both v.merging er es h o;
       count_is = omega (arith, one_longer v.found r, v.count_is);
     }
 
@@ -198,10 +198,7 @@ module _ (n start : ℕ) (ai : List ℕ) (av : List Float) (bi : List ℕ) (bv :
         writing_second = writing_more s second_found (b_given (second_in v.merging er es h) refl ∙
             of_second ai av bi bv s (second_only v.merging er es h) (second_lists v.merging er es h))
 
-      module _ (g : r ≤ s) (h : s ≤ r) (o : (ka < length ai) ⊎ (kb < length bi)) where
-        same : r ≡ s
-        same = omega arith
-
+      module _ (same : r ≡ s) (o : (ka < length ai) ⊎ (kb < length bi)) where
         both_found : Merging n ai bi (ka + 1) (kb + 1) (v.found ++ (r ∷ []))
         both_found = merging_both v.merging er es same o
 
@@ -243,7 +240,7 @@ module _ (n start : ℕ) (ai : List ℕ) (av : List Float) (bi : List ℕ) (bv :
         Walking oi₀ ov₀ (set oi at s) (set ov at (mul binary64 (get_or bv kb nan) one)) (at + 1) ka (kb + 1) r s'
     walking_second h e = record { writing = writing_second w.writing w.r_is w.s_is h; r_is = w.r_is; s_is = e }
 
-    pub walking_both : r ≤ s → s ≤ r → (ka < length ai) ⊎ (kb < length bi) → {r' s' : ℕ} → r' ≡ get_or ai (ka + 1) end → s' ≡ get_or bi (kb + 1) end
+    pub walking_both : r ≡ s → (ka < length ai) ⊎ (kb < length bi) → {r' s' : ℕ} → r' ≡ get_or ai (ka + 1) end → s' ≡ get_or bi (kb + 1) end
         → Walking oi₀ ov₀ (set oi at r) (set ov at (add binary64 (mul binary64 (get_or av ka nan) one) (mul binary64 (get_or bv kb nan) one)))
         (at + 1) (ka + 1) (kb + 1) r' s'
-    walking_both g h o e f = record { writing = writing_both w.writing w.r_is w.s_is g h o; r_is = e; s_is = f }
+    walking_both h o e f = record { writing = writing_both w.writing w.r_is w.s_is h o; r_is = e; s_is = f }

@@ -10,19 +10,18 @@ use lib.ListN.{length, get_or, set, length-map}
 use borrow.Author.Tests.{eqb-true}
 use Rattle.lists.specs.Calls.{lowest, outputs}
 use Rattle.lists.specs.Choices.{chosen}
-use Rattle.lists.specs.Parts.{part}
 use Rattle.lists.proofs.Bools.{or-false, not_holds, passed_over}
 use Rattle.lists.proofs.Calls.{first, then, below_7, left_alone, left-written}
-use Rattle.lists.proofs.Parts.{length_part}
 use Rattle.lists.proofs.Tables.{length-table}
 use Rattle.cs_matrix.specs.Matrix.{Matrix, Stored, stored, column, short, written, Valid}
-use Rattle.cs_matrix.proofs.Pointers.{Between, between, column-is, length-column, get_or-column, last-at}
-use Rattle.cs_columns.specs.Columns.{joined, with_columns, with_entries, either, laid, judged_two, short_for}
+use Rattle.cs_matrix.proofs.Pointers.{between, length-column, last-at}
+use Rattle.cs_columns.specs.Columns.{IsColumn, joined, with_columns, with_entries, either, laid, judged_two, short_for}
 use Rattle.cs_columns.proofs.Filling.{Filling, filling_start, filling_turn, filling_end, filling_at, filling_i, filling_v, room_i, room_v, room_p}
 use Rattle.cs_columns.proofs.Filling.{room-all}
+use Rattle.cs_columns.proofs.Handing.{column-alike, column-below, column-up}
 use Rattle.cs_columns.proofs.Joining.{joined-none, length_more, joined-steps, joined_alike, entries-within, entries_valid}
 use Rattle.cs_columns.proofs.Judging.{alone_7, early_two, Passed, passed, Roomy, roomy, short_fewer, short_for_lem}
-use Rattle.cs_columns.proofs.Merging.{either-most}
+use Rattle.cs_columns.proofs.Merging.{either-most, either-fewer}
 use Rattle.cs_sum.specs.Steps.{Risen, Column, Alike, Ready}
 use Rattle.cs_sum.specs.Sum.{summed_at, row_of, value_of, sum, differ, number}
 
@@ -30,14 +29,6 @@ use Rattle.cs_sum.specs.Sum.{summed_at, row_of, value_of, sum, differ, number}
 same_dimensions : (n m k l : ℕ) → differ n m k l ≡ false → (n ≡ k) × (m ≡ l)
 unfolding differ
 same_dimensions n m k l h = let x = or-false (not (eqb n k)) _ h in (eqb-true n k (not_holds _ x.0), eqb-true m l (not_holds _ x.1))
-
--- ---- the rows of a column are below the row count
-column-below : {a : Matrix} → Valid a → (j : ℕ) → get_or a.pattern.p (j + 1) 0 ≤ length a.pattern.i → (k : ℕ) →
-    k < length (column a.pattern.p j a.pattern.i) → get_or (column a.pattern.p j a.pattern.i) k 0 < a.pattern.nrows
-column-below {a} v j h k l =
-    let n = length-column a.pattern.p j a.pattern.i h in
-    rw (get_or-column a.pattern.p j a.pattern.i k 0 (omega (arith, n)))
-    (v.pattern.below (get_or a.pattern.p j 0 + k) (omega (arith, n)))
 
 module _ (a b : Matrix) where
   abbrev nrows : ℕ
@@ -70,56 +61,45 @@ module _ (a b : Matrix) where
   abbrev pub vals : ℕ → List Float
   vals j = map (value_of a b j) (rows j)
 
-  -- ---- the parts of both that are handed on
-  pub record Handed (j x e c d : ℕ) : Type 0 where
-    pub first : Between ap (length ai) j x e
-    pub second : Between bp (length bi) j c d
-    pub a_vals : e ≤ length av
-    pub b_vals : d ≤ length bv
+  -- ---- a column of each, handed on
+  module _ (v : Alike a b) {j : ℕ} (h : j < ncols) where
+    pub b_has : j < b.pattern.ncols
+    b_has = omega (arith, v.cols)
 
-  pub handed : Alike a b → {j x e c d : ℕ} → j < ncols → x ≡ get_or ap j 0 → e ≡ get_or ap (j + 1) 0 → c ≡ get_or bp j 0 →
-      d ≡ get_or bp (j + 1) 0 → Handed j x e c d
-  handed v h f g k l =
-      let s = between v.first.pattern.ptrs v.first.pattern.p_long h f g in
-      let t = between v.second.pattern.ptrs v.second.pattern.p_long (omega (arith, v.cols)) k l in
-      record { first = s; second = t; a_vals = omega (arith, s.inside, v.first.v_long); b_vals = omega (arith, t.inside, v.second.v_long) }
+    module _ {l m : List ℕ} {x y : List Float} (p : IsColumn a j l x) (q : IsColumn b j m y) where
+      b_below : (k : ℕ) → k < length m → get_or m k 0 < nrows
+      b_below = rw v.rows (column-below v.second b_has q)
 
-  module _ (v : Alike a b) {j x e c d : ℕ} (h : j < ncols) (p : Handed j x e c d) where
-    a_rows : part x e ai ≡ column ap j ai
-    a_rows = column-is p.first ai
+      fewer : chosen 65535 (either l m) ≡ chosen nrows (either l m)
+      fewer = either-fewer l m v.first.pattern.rows (column-below v.first h p) b_below
 
-    b_rows : part c d bi ≡ column bp j bi
-    b_rows = column-is p.second bi
+      pub rows_is : chosen 65535 (either l m) ≡ rows j
+      unfolding row_of
+      rows_is = fewer ∙ (rw (p.rows_are, q.rows_are))
 
-    pub rows_is : chosen nrows (either (part x e ai) (part c d bi)) ≡ rows j
-    unfolding row_of
-    rows_is = rw (a_rows, b_rows)
+      pub vals_is : map (summed_at l x m y) (chosen 65535 (either l m)) ≡ vals j
+      unfolding value_of row_of
+      vals_is = rw (fewer, p.rows_are, p.vals_are, q.rows_are, q.vals_are)
 
-    pub vals_is : map (summed_at (part x e ai) (part x e av) (part c d bi) (part c d bv)) (chosen nrows (either (part x e ai) (part c d bi))) ≡ vals j
-    unfolding value_of row_of
-    vals_is = rw (a_rows, b_rows, column-is p.first av, column-is p.second bv)
+      pub risen : Risen 65535 l m
+      risen = record {
+        small = omega arith;
+        l_below = λ k g. omega (arith, v.first.pattern.rows, column-below v.first h p k g);
+        m_below = λ k g. omega (arith, v.first.pattern.rows, b_below k g);
+        l_up = column-up v.first h p;
+        m_up = column-up v.second b_has q;
+      }
 
-    pub risen : Risen nrows (part x e ai) (part c d bi)
-    risen =
-        rw (a_rows, b_rows)
-        (record {
-          small = v.first.pattern.rows;
-          l_below = column-below v.first j (rw (← p.first.ends) p.first.inside);
-          m_below = λ k l. omega (arith, v.rows, column-below v.second j (rw (← p.second.ends) p.second.inside) k l);
-          l_up = v.first.pattern.rise j h;
-          m_up = v.second.pattern.rise j (omega (arith, v.cols));
-        })
-
-    a_alike : length (part x e av) ≡ length (part x e ai)
-    a_alike = omega (arith, length_part x e av p.a_vals, length_part x e ai p.first.inside)
-
-    b_alike : length (part c d bv) ≡ length (part c d bi)
-    b_alike = omega (arith, length_part c d bv p.b_vals, length_part c d bi p.second.inside)
-
-    pub columned : {at : ℕ} {oi : List ℕ} {ov : List Float} → at + length (rows j) ≤ 4194304 → at + length (rows j) ≤ length oi →
-        at + length (rows j) ≤ length ov
-        → Column nrows at (part x e ai) (part x e av) (part c d bi) (part c d bv) oi ov
-    columned f g k = record { risen = risen; a_alike = a_alike; b_alike = b_alike; few = rw rows_is f; in_i = rw rows_is g; in_v = rw rows_is k }
+      pub columned : {at : ℕ} {oi : List ℕ} {ov : List Float} → at + length (rows j) ≤ 4194304 → at + length (rows j) ≤ length oi →
+          at + length (rows j) ≤ length ov → Column 65535 at l x m y oi ov
+      columned f g k = record {
+        risen = risen;
+        a_alike = column-alike v.first h p;
+        b_alike = column-alike v.second b_has q;
+        few = rw rows_is f;
+        in_i = rw rows_is g;
+        in_v = rw rows_is k;
+      }
 
   -- ---- `count`
   pub record Tallying (places j : ℕ) : Type 0 where
@@ -131,9 +111,10 @@ module _ (a b : Matrix) where
   tallying_start v = record { ask = v; within = omega arith; is = sym (cong length (joined-none rows)) }
 
   module _ {places j : ℕ} (s : Tallying places j) where
-    module _ (h : j < ncols) {x e c d : ℕ} (p : Handed j x e c d) {r : ℕ} (f : r ≡ length (chosen nrows (either (part x e ai) (part c d bi)))) where
+    module _ (h : j < ncols) {l m : List ℕ} {x y : List Float} (p : IsColumn a j l x) (q : IsColumn b j m y) {r : ℕ}
+        (f : r ≡ length (chosen 65535 (either l m))) where
       next : places + r ≡ length (joined rows (j + 1))
-      next = omega (arith, s.is, f, cong length (rows_is s.ask h p), length_more rows j)
+      next = omega (arith, s.is, f, cong length (rows_is s.ask h p q), length_more rows j)
 
       pub tallying_small : places + r ≤ 4294901760
       tallying_small = omega (
@@ -221,24 +202,23 @@ module _ (a b : Matrix) where
     pub writing_v : length ov ≡ length ov₀
     writing_v = filling_v nrows ncols rows vals s.filling
 
-    module _ (h : j < ncols) {x e c d : ℕ} (p : Handed j x e c d) where
-      pub writing_asks : Column nrows at (part x e ai) (part x e av) (part c d bi) (part c d bv) oi ov
-      writing_asks = columned s.ask.alike h p (omega (arith, room-all nrows ncols rows vals s.filling h, s.ask.few))
+    module _ (h : j < ncols) {l m : List ℕ} {x y : List Float} (p : IsColumn a j l x) (q : IsColumn b j m y) where
+      pub writing_asks : Column 65535 at l x m y oi ov
+      writing_asks = columned s.ask.alike h p q (omega (arith, room-all nrows ncols rows vals s.filling h, s.ask.few))
           (room_i nrows ncols rows vals s.filling h) (room_v nrows ncols rows vals s.filling h)
 
-      pub writing_turn : {r : ℕ} {oi' : List ℕ} {ov' : List Float} → r ≡ at + length (chosen nrows (either (part x e ai) (part c d bi)))
-          → oi' ≡ laid at oi (chosen nrows (either (part x e ai) (part c d bi)))
-          → ov' ≡ laid at ov (map (summed_at (part x e ai) (part x e av) (part c d bi) (part c d bv))
-          (chosen nrows (either (part x e ai) (part c d bi))))
+      pub writing_turn : {r : ℕ} {oi' : List ℕ} {ov' : List Float} → r ≡ at + length (chosen 65535 (either l m))
+          → oi' ≡ laid at oi (chosen 65535 (either l m))
+          → ov' ≡ laid at ov (map (summed_at l x m y) (chosen 65535 (either l m)))
           → Writing op₀ oi₀ ov₀ (set op j at) oi' ov' r (j + 1)
       writing_turn f g k =
           record {
             ask = s.ask;
             filling =
                 filling_turn nrows ncols rows vals s.filling h
-                (f ∙ cong (λ (l : List ℕ). at + length l) (rows_is s.ask.alike h p))
-                (g ∙ cong (laid at oi) (rows_is s.ask.alike h p))
-                (k ∙ cong (laid at ov) (vals_is s.ask.alike h p));
+                (f ∙ cong (λ (l : List ℕ). at + length l) (rows_is s.ask.alike h p q))
+                (g ∙ cong (laid at oi) (rows_is s.ask.alike h p q))
+                (k ∙ cong (laid at ov) (vals_is s.ask.alike h p q));
           }
 
     pub writing_done : ncols ≤ j → stored (set op ncols at) oi ov ≡ written (sum a b) (stored op₀ oi₀ ov₀)

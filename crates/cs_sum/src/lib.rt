@@ -2,5 +2,6 @@
 #![tactic(auto)]
 
 mod alike;
+mod column;
 mod merge;
 pub mod sum;

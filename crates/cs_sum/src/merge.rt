@@ -7,11 +7,12 @@ ghost use Rattle.cs_sum.specs.Sum.{summed_at};
 
 use crate::alike::{add_values, same_rows};
 use cs_columns::rows::row_at;
+use std::cmp::Ordering::{Equal, Greater, Less};
 
 // How many different rows two columns have. A merge moves two positions apart, which no `for` counts.
-pub fn count_rows(nrows: usize, ai: &[u32], bi: &[u32]) -> usize
-    requires { Risen nrows ai.now bi.now }
-    ensures { result ≡ length (chosen nrows (either ai.now bi.now)) }
+pub fn count_rows(ai: &[u32], bi: &[u32]) -> usize
+    requires { Risen 65535 ai.now bi.now }
+    ensures { result ≡ length (chosen 65535 (either ai.now bi.now)) }
 {
     let mut count = 0;
     let mut ka = 0;
@@ -19,22 +20,22 @@ pub fn count_rows(nrows: usize, ai: &[u32], bi: &[u32]) -> usize
     while ka < ai.len() || kb < bi.len() {
         let r = row_at(ai, ka);
         let s = row_at(bi, kb);
-        if r < s {
-            ka += 1;
-        } else if s < r {
-            kb += 1;
-        } else {
-            ka += 1;
-            kb += 1;
+        match r.cmp(&s) {
+            Less => ka += 1,
+            Greater => kb += 1,
+            Equal => {
+                ka += 1;
+                kb += 1;
+            }
         }
         count += 1;
     }
     count
 }
 
-// The rows of two columns with their sums, written from `start` on, row by row. The answer is the place behind them.
+// The rows of two columns with their sums, written from `start` on, row by row. The answer is the place behind them. Here too two
+// positions move apart.
 fn walk(
-    nrows: usize,
     start: usize,
     ai: &[u32],
     av: &[f64],
@@ -43,8 +44,8 @@ fn walk(
     oi: &mut [u32],
     ov: &mut [f64],
 ) -> usize
-    requires { Column nrows start ai.now av.now bi.now bv.now oi.old ov.old }
-    ensures { let rows = chosen nrows (either ai.now bi.now) in
+    requires { Column 65535 start ai.now av.now bi.now bv.now oi.old ov.old }
+    ensures { let rows = chosen 65535 (either ai.now bi.now) in
         let vals = map (summed_at ai.now av.now bi.now bv.now) rows in
         (result ≡ start + length rows) × (oi.new ≡ laid start oi.old rows) × (ov.new ≡ laid start ov.old vals) }
 {
@@ -54,23 +55,27 @@ fn walk(
     let mut r = row_at(ai, 0);
     let mut s = row_at(bi, 0);
     while ka < ai.len() || kb < bi.len() {
-        if r < s {
-            oi[at] = r;
-            ov[at] = av[ka] * 1.0;
-            ka += 1;
-            r = row_at(ai, ka);
-        } else if s < r {
-            oi[at] = s;
-            ov[at] = bv[kb] * 1.0;
-            kb += 1;
-            s = row_at(bi, kb);
-        } else {
-            oi[at] = r;
-            ov[at] = av[ka] * 1.0 + bv[kb] * 1.0;
-            ka += 1;
-            kb += 1;
-            r = row_at(ai, ka);
-            s = row_at(bi, kb);
+        match r.cmp(&s) {
+            Less => {
+                oi[at] = r;
+                ov[at] = av[ka] * 1.0;
+                ka += 1;
+                r = row_at(ai, ka);
+            }
+            Greater => {
+                oi[at] = s;
+                ov[at] = bv[kb] * 1.0;
+                kb += 1;
+                s = row_at(bi, kb);
+            }
+            Equal => {
+                oi[at] = r;
+                ov[at] = av[ka] * 1.0 + bv[kb] * 1.0;
+                ka += 1;
+                kb += 1;
+                r = row_at(ai, ka);
+                s = row_at(bi, kb);
+            }
         }
         at += 1;
     }
@@ -79,7 +84,6 @@ fn walk(
 
 // The same, where columns that have the same rows are taken side by side.
 pub fn merge(
-    nrows: usize,
     start: usize,
     ai: &[u32],
     av: &[f64],
@@ -88,8 +92,8 @@ pub fn merge(
     oi: &mut [u32],
     ov: &mut [f64],
 ) -> usize
-    requires { Column nrows start ai.now av.now bi.now bv.now oi.old ov.old }
-    ensures { let rows = chosen nrows (either ai.now bi.now) in
+    requires { Column 65535 start ai.now av.now bi.now bv.now oi.old ov.old }
+    ensures { let rows = chosen 65535 (either ai.now bi.now) in
         let vals = map (summed_at ai.now av.now bi.now bv.now) rows in
         (result ≡ start + length rows) × (oi.new ≡ laid start oi.old rows) × (ov.new ≡ laid start ov.old vals) }
 {
@@ -98,5 +102,5 @@ pub fn merge(
         add_values(ai, av, bv, &mut oi[start..end], &mut ov[start..end]);
         return end;
     }
-    walk(nrows, start, ai, av, bi, bv, oi, ov)
+    walk(start, ai, av, bi, bv, oi, ov)
 }

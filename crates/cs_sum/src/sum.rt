@@ -9,10 +9,10 @@ ghost use Rattle.cs_columns.specs.Columns.{joined, short_for};
 ghost use Rattle.cs_sum.specs.Steps.{Alike, Ready};
 ghost use Rattle.cs_sum.specs.Sum.{row_of, sum as sum_of, differ as differOf, number};
 
+use crate::column::column;
 use crate::merge::{count_rows, merge};
 use cs_columns::judge::{check_two, no_room};
 use cs_matrix::matrix::{Matrix, Pattern};
-use lists::numbers::wide;
 use lists::refusal::Refusal;
 
 // The dimensions of the two differ.
@@ -30,15 +30,12 @@ fn count(a: Matrix<'_>, b: Matrix<'_>) -> usize
         let b = matrix_of b.entry in
         result ≡ length (joined (λ j. chosen a.pattern.nrows (row_of a b j)) a.pattern.ncols) }
 {
-    let Pattern { nrows, ncols, p, i } = a.pattern;
-    let Pattern { p: bp, i: bi, .. } = b.pattern;
+    let ncols = a.pattern.ncols;
     let mut places = 0;
     for j in 0..ncols {
-        let a_start = wide(p[j]);
-        let a_end = wide(p[j + 1]);
-        let b_start = wide(bp[j]);
-        let b_end = wide(bp[j + 1]);
-        places += count_rows(nrows, &i[a_start..a_end], &bi[b_start..b_end]);
+        let (ai, _) = column(a, j);
+        let (bi, _) = column(b, j);
+        places += count_rows(ai, bi);
     }
     places
 }
@@ -74,25 +71,13 @@ fn fill(a: Matrix<'_>, b: Matrix<'_>, op: &mut [u32], oi: &mut [u32], ov: &mut [
     ensures { stored op.new oi.new ov.new
         ≡ written (sum_of (matrix_of a.entry) (matrix_of b.entry)) (stored op.old oi.old ov.old) }
 {
-    let Pattern { nrows, ncols, p, i } = a.pattern;
-    let Pattern { p: bp, i: bi, .. } = b.pattern;
+    let ncols = a.pattern.ncols;
     let mut at = 0;
     for j in 0..ncols {
         op[j] = at as u32;
-        let a_start = wide(p[j]);
-        let a_end = wide(p[j + 1]);
-        let b_start = wide(bp[j]);
-        let b_end = wide(bp[j + 1]);
-        at = merge(
-            nrows,
-            at,
-            &i[a_start..a_end],
-            &a.v[a_start..a_end],
-            &bi[b_start..b_end],
-            &b.v[b_start..b_end],
-            oi,
-            ov,
-        );
+        let (ai, av) = column(a, j);
+        let (bi, bv) = column(b, j);
+        at = merge(at, ai, av, bi, bv, oi, ov);
     }
     op[ncols] = at as u32;
 }

@@ -17,18 +17,17 @@ use Rattle.lists.specs.Calls.{none}
 use Rattle.lists.specs.Folds.{along, over}
 use Rattle.lists.specs.Parts.{part}
 use Rattle.lists.proofs.Bools.{eq-or-ne, le-or-lt, not-both}
-use Rattle.lists.proofs.Parts.{length_part}
 use Rattle.lists.proofs.Spots.{member_at, along-same}
 use Rattle.root.specs.Root.{root_of}
 use Rattle.cs_matrix.specs.Matrix.{pattern, matrix, column}
-use Rattle.cs_matrix.proofs.Pointers.{Between, between, column-is}
+use Rattle.cs_matrix.proofs.Pointers.{Between, between, length-column}
 use Rattle.cs_tree.specs.Least.{In}
 use Rattle.cs_tree.specs.Pattern.{analysis, upper, lower, entries}
 use Rattle.cs_pattern.specs.Columns.{columns}
 use Rattle.cs_pattern.proofs.Columns.{column-at}
 use Rattle.cs_cholesky.specs.Factor.{Step}
 use Rattle.cs_cholesky.specs.Served.{Served}
-use Rattle.cs_cholesky.proofs.Serving.{laid_inside, laid_order, laid-part}
+use Rattle.cs_cholesky.proofs.Serving.{laid_inside, laid_order}
 use Rattle.cs_up.specs.Steps.{way, held, goes, start_on, Loads, Cut, Stands, Rows, Rowed, Closes, Ready, Gone}
 use Rattle.cs_up.specs.Up.{Way, put_at, row_at, rows_at, start_at, up_step}
 use Rattle.cs_up.proofs.Holding.{held_more}
@@ -39,6 +38,9 @@ use Rattle.cs_up.proofs.Rowing.{climbs}
 column_of : {A : Type 0} (p : List ℕ) (j : ℕ) (l : List A) → column p j l ≡ part (get_or p j 0) (get_or p (j + 1) 0) l
 unfolding column
 column_of p j l = refl
+
+pub part-column : {A : Type 0} (p : List ℕ) (k : ℕ) {a e : ℕ} → a ≡ get_or p k 0 → e ≡ get_or p (k + 1) 0 → (l : List A) → part a e l ≡ column p k l
+part-column p k x y l = rw (x, y) (sym (column_of p k l))
 
 -- nothing to go through
 rows_none : (k : ℕ) (ls : List (List ℕ)) (s : Way) → rows_at k ls [] s ≡ s
@@ -65,33 +67,34 @@ module _ {n k : ℕ} {p i : List ℕ} {v : List Float} {tr up ui lp li : List �
   ls = lower C
 
   -- ---- the stored column
-  module _ {a e : ℕ} (f : a ≡ get_or p k 0) (g : e ≡ get_or p (k + 1) 0) where
-    pub stored : Between p (length i) k a e
-    stored = between S.valid.pattern.ptrs S.valid.pattern.p_long here f g
+  stored : Between p (length i) k (get_or p k 0) (get_or p (k + 1) 0)
+  stored = between S.valid.pattern.ptrs S.valid.pattern.p_long here refl refl
 
-    pub stored-in_v : e ≤ length v
-    stored-in_v = omega (arith, stored.inside, S.valid.v_long)
+  in_v : get_or p (k + 1) 0 ≤ length v
+  in_v = omega (arith, stored.inside, S.valid.v_long)
 
-    pub column_loads : Loads k (part a e i) (part a e v) x
-    column_loads = record {
-      here = omega (arith, R.x_long);
-      alike = length_part a e v stored-in_v ∙ sym (length_part a e i stored.inside);
-      rise = rw (column-is stored i) (S.valid.pattern.rise k here);
-    }
+  pub stored_i : (k + 1 < length p) × (get_or p k 0 ≤ get_or p (k + 1) 0) × (get_or p (k + 1) 0 ≤ length i)
+  stored_i = (omega (arith, S.valid.pattern.p_long), stored.order, stored.inside)
+
+  pub stored_v : (k + 1 < length p) × (get_or p k 0 ≤ get_or p (k + 1) 0) × (get_or p (k + 1) 0 ≤ length v)
+  stored_v = (omega (arith, S.valid.pattern.p_long), stored.order, in_v)
+
+  pub column_loads : {r : List ℕ} {y : List Float} → r ≡ column p k i → y ≡ column p k v → Loads k r y x
+  column_loads f g = record {
+    here = omega (arith, R.x_long);
+    alike = rw (f, g) (length-column p k v in_v ∙ sym (length-column p k i stored.inside));
+    rise = rw f (S.valid.pattern.rise k here);
+  }
 
   in_us : k < length us
   in_us = omega (arith, S.u_long)
 
   -- U's column
-  module _ {b f : ℕ} (y : b ≡ get_or up k 0) (z : f ≡ get_or up (k + 1) 0) where
-    pub upper_order : b ≤ f
-    upper_order = laid_order S.u_laid in_us y z
+  pub upper_u : (k + 1 < length up) × (get_or up k 0 ≤ get_or up (k + 1) 0) × (get_or up (k + 1) 0 ≤ length ui)
+  upper_u = (omega (arith, S.u_laid.pointed.long, S.u_long), laid_order S.u_laid in_us refl refl, laid_inside S.u_laid in_us refl refl)
 
-    pub upper_inside : f ≤ length ui
-    upper_inside = laid_inside S.u_laid in_us y z
-
-    upper-part : part b f ui ≡ get_or us k []
-    upper-part = laid-part S.u_laid in_us y z
+  upper_is : column up k ui ≡ get_or us k []
+  upper_is = column_of up k ui ∙ S.u_laid.column k in_us
 
   abbrev rows : List ℕ
   rows = column p k i
@@ -109,16 +112,16 @@ module _ {n k : ℕ} {p i : List ℕ} {v : List Float} {tr up ui lp li : List �
       put_other k rows vals x j (λ z l e m. o (rw e at (stored-in z l (rw e m))))
       ∙ (rw R.zeros (get_or-replicate n j none nan h))
 
-  rows_asked : {b f : ℕ} {x1 : List Float} → Stands k k lp li next → b ≡ get_or up k 0 → f ≡ get_or up (k + 1) 0 →
-      x1 ≡ set (over (put_at k) rows vals x) k none → Rows k (part b f ui) lp li lx next x1
-  rows_asked {x1 = x1} st y z e =
+  rows_asked : {u : List ℕ} {x1 : List Float} → Stands k k lp li next → u ≡ column up k ui →
+      x1 ≡ set (over (put_at k) rows vals x) k none → Rows k u lp li lx next x1
+  rows_asked {x1 = x1} st y e =
       record {
         n = n;
         t = entries us;
         us = us;
         lies = lies S;
         here = here;
-        is = upper-part y z;
+        is = y ∙ upper_is;
         lx_long = R.lx_long;
         next_long = R.next_long;
         x_long = ap length e ∙ length-set (over (put_at k) rows vals x) k none ∙ long ∙ R.x_long;
@@ -127,7 +130,7 @@ module _ {n k : ℕ} {p i : List ℕ} {v : List Float} {tr up ui lp li : List �
             (λ (q : j ≡ k). rw q (get_or-set_same (over (put_at k) rows vals x) k none nan (omega (arith, long, R.x_long))))
             (λ (q : j ≡ k → ⊥).
             get_or-set_other (over (put_at k) rows vals x) k j none nan q
-            ∙ unput j h (λ m. let u = upward S m in o (omega (arith, q)) (rw (upper-part y z) m)))
+            ∙ unput j h (λ m. let u = upward S m in o (omega (arith, q)) (rw (y ∙ upper_is) m)))
             (eq-or-ne j k));
       }
     where
@@ -135,32 +138,30 @@ module _ {n k : ℕ} {p i : List ℕ} {v : List Float} {tr up ui lp li : List �
       long = length-put k rows vals x
 
   -- what `start` answers and leaves
-  module _ {a e : ℕ} (f : a ≡ get_or p k 0) (g : e ≡ get_or p (k + 1) 0) {x1 : List Float} {first : Float}
-      (u : (first ≡ get_or (over (put_at k) (part a e i) (part a e v) x) k nan) × (x1 ≡ set (over (put_at k) (part a e i) (part a e v) x) k none))
-    where
-      put_is : over (put_at k) (part a e i) (part a e v) x ≡ over (put_at k) rows vals x
-      put_is = rw (column-is (stored f g) i, column-is (stored f g) v)
+  module _ {r : List ℕ} {y : List Float} (f : r ≡ rows) (g : y ≡ vals) {x1 : List Float} {first : Float}
+      (u : (first ≡ get_or (over (put_at k) r y x) k nan) × (x1 ≡ set (over (put_at k) r y x) k none)) where
+    put_is : over (put_at k) r y x ≡ over (put_at k) rows vals x
+    put_is = rw (f, g) refl
 
-      x1_is : x1 ≡ set (over (put_at k) rows vals x) k none
-      x1_is = u.1 ∙ ap (λ (y : List Float). set y k none) put_is
+    x1_is : x1 ≡ set (over (put_at k) rows vals x) k none
+    x1_is = u.1 ∙ ap (λ (y : List Float). set y k none) put_is
 
-      module _ {b h : ℕ} (y : b ≡ get_or up k 0) (z : h ≡ get_or up (k + 1) 0) where
-        pub column-rows : Stands k k lp li next → Rows k (part b h ui) lp li lx next x1
-        column-rows st = rows_asked st y z x1_is
+    module _ {us1 : List ℕ} (z : us1 ≡ column up k ui) where
+      pub column-rows : Stands k k lp li next → Rows k us1 lp li lx next x1
+      column-rows st = rows_asked st z x1_is
 
-        started_on : way x1 first (held k lp next lx) ≡ start_on k rows vals x (held k lp next lx)
-        unfolding start_on
-        started_on = λ t. record { x = x1_is t; pivot = (u.0 ∙ ap (λ (y : List Float). get_or y k nan) put_is) t; columns = held k lp next lx }
+      started_on : way x1 first (held k lp next lx) ≡ start_on k rows vals x (held k lp next lx)
+      unfolding start_on
+      started_on = λ t. record { x = x1_is t; pivot = (u.0 ∙ ap (λ (y : List Float). get_or y k nan) put_is) t; columns = held k lp next lx }
 
-        pub column-gone : {lx1 : List Float} {next1 : List ℕ} {x2 : List Float} {pivot : Float}
-            → (way x2 pivot (held k lp next1 lx1) ≡ goes k lp li (part b h ui) (way x1 first (held k lp next lx))) × Rowed k lp li next1 x2 →
-            Gone k (matrix n n p i v) (analysis tr up ui lp li) lx next x lx1 next1 x2 pivot
-        column-gone w =
-            let c : part b h ui ≡ column up k ui = (rw (y, z) (sym (column_of up k ui))) in
-            record {
-              is = w.0 ∙ ap (λ (l : List ℕ). goes k lp li l (way x1 first (held k lp next lx))) c ∙ ap (goes k lp li (column up k ui)) started_on;
-              rowed = w.1;
-            }
+      pub column-gone : {lx1 : List Float} {next1 : List ℕ} {x2 : List Float} {pivot : Float}
+          → (way x2 pivot (held k lp next1 lx1) ≡ goes k lp li us1 (way x1 first (held k lp next lx))) × Rowed k lp li next1 x2 →
+          Gone k (matrix n n p i v) (analysis tr up ui lp li) lx next x lx1 next1 x2 pivot
+      column-gone w =
+          record {
+            is = w.0 ∙ ap (λ (l : List ℕ). goes k lp li l (way x1 first (held k lp next lx))) z ∙ ap (goes k lp li (column up k ui)) started_on;
+            rowed = w.1;
+          }
 
   -- ---- the definition's column
   abbrev step : ℕ → List (List Float) → Step
@@ -176,12 +177,9 @@ module _ {n k : ℕ} {p i : List ℕ} {v : List Float} {tr up ui lp li : List �
   goes-is : (s : Way) → goes k lp li (column up k ui) s ≡ rows_at k ls (get_or us k []) s
   unfolding goes rows_at
   goes-is s =
-      ap (λ (u : List ℕ). along (λ j s. cond (ltb j k) (row_at k (column lp j li) j s) s) u s) u_is
+      ap (λ (u : List ℕ). along (λ j s. cond (ltb j k) (row_at k (column lp j li) j s) s) u s) upper_is
       ∙ along-same _ _ (get_or us k []) (λ j s m. one j s (ltb j k) refl) s
     where
-      u_is : column up k ui ≡ get_or us k []
-      u_is = column_of up k ui ∙ S.u_laid.column k in_us
-
       one : (j : ℕ) (s : Way) (t : Bool) → ltb j k ≡ t → cond t (row_at k (column lp j li) j s) s ≡ cond t (row_at k (get_or ls j []) j s) s
       one j s true e = ap (λ (l : List ℕ). row_at k l j s) (column_of lp j li ∙ S.l_laid.column j (omega (arith, ltb-true j k e, S.l_long)))
       one j s false e = refl

@@ -24,7 +24,7 @@ fn take_rows(t: f64, rows: &[u32], vals: &[f64], x: &mut [f64])
     }
 }
 
-// The same, place by place.
+// The same, place by place. Lists' `add_times` adds; with the step as a closure it would ask what that answers, which no public function may.
 fn take_run(t: f64, vals: &[f64], x: &mut [f64])
     ensures { x.new ≡ zipped (λ a v. sub binary64 a (mul binary64 v t)) x.old vals.now }
 {

@@ -14,18 +14,17 @@ ghost use Rattle.cs_up.specs.Steps.{Closes, Ready, Turns, Gone, Fills};
 ghost use Rattle.cs_up.specs.Up.{up as upOf, number};
 
 use crate::row::rows_at;
-use crate::start::start;
+use crate::start::{column, start};
 use cs_cholesky::Factored;
 use cs_cholesky::judge::judge;
 use cs_matrix::matrix::{Matrix, Pattern};
 use cs_pattern::compare::Analysis;
 use lists::clear::{clear_scratch, fill};
 use lists::numbers::wide;
-use lists::refusal::Refusal;
 use root::root;
 
 // Column k down to its pivot, which is the answer.
-fn column(
+fn turn(
     k: usize,
     a: Matrix<'_>,
     given: Analysis<'_>,
@@ -39,12 +38,8 @@ fn column(
     let Matrix { pattern, v } = a;
     let Pattern { p, i, .. } = pattern;
     let Analysis { up, ui, lp, li, .. } = given;
-    let s = wide(p[k]);
-    let e = wide(p[k + 1]);
-    let first = start(k, &i[s..e], &v[s..e], x);
-    let b = wide(up[k]);
-    let f = wide(up[k + 1]);
-    rows_at(k, &ui[b..f], lp, li, lx, next, x, first)
+    let first = start(k, column(k, p, i), column(k, p, v), x);
+    rows_at(k, column(k, up, ui), lp, li, lx, next, x, first)
 }
 
 // The diagonal of column k.
@@ -73,13 +68,9 @@ fn factor(
         (λ stopped. (stopped ≡ f.answer) × (stopped.number ≡ 11)) }
 {
     for k in 0..a.pattern.ncols {
-        let pivot = column(k, a, given, lx, next, x);
+        let pivot = turn(k, a, given, lx, next, x);
         if !(pivot > 0.0) {
-            return Err(Factored {
-                number: Refusal::BadPivot.number(),
-                column: k as u32,
-                pivot,
-            });
+            return Err(Factored::stopped(k as u32, pivot));
         }
         close(k, pivot, given.lp, lx, next);
     }
@@ -106,11 +97,7 @@ fn work(
         fill(0.0, t, lx);
         return stopped;
     }
-    Factored {
-        number: 0,
-        column: 0,
-        pivot: 0.0,
-    }
+    Factored::DONE
 }
 
 // The up factoring of a matrix by a lent analysis: L's values in lx.

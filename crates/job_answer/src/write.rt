@@ -6,8 +6,8 @@ ghost use Rattle.job_answer.specs.Answer.{answer, leaves};
 use crate::put::{put_refusal, put_rows};
 use lists::refusal::Refusal;
 
-// With number 0 an XV for each of x, else only NO number, column: they are that record's own fields, so numbers. Answers how many
-// bytes were written.
+// With number 0 an XV for each of x, else only NO number, column. Any number is taken, also one that no refusal has. Answers how many bytes
+// were written.
 pub fn write_answer(number: u32, column: u32, x: &[f64], out: &mut [u8]) -> Result<usize, Refusal>
     ensures { let w = text (lines number column x.now) in
         (result ≡ answer w out.old) × (out.new ≡ leaves w out.old) }

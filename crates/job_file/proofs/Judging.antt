@@ -139,35 +139,25 @@ module _ (h : Head) (l : Arrays) (long : h.entries ≤ length l.rows) where
   go Left = rw (complete-is)
   go Up = rw (complete-is)
 
-module _ (h : Head) (row bits : ℕ) where
-  pub rh_late : (h.stage ≡ Sized → ⊥) → Judged h (RH row bits) 12
-  rh_late a = record { is = λ l p. sym (rh h l p row bits ∙ simp (not_sized h a)) }
+-- the turn of RH and of GO
+module _ (h : Head) {b : Bool} (is : b ≡ (eqb (place_of h.stage) 1 && eqb h.entries h.count)) where
+  module _ (row bits : ℕ) where
+    pub rh_unfilled : b ≡ false → Judged h (RH row bits) 12
+    rh_unfilled f = record { is = λ l p. sym (rh h l p row bits ∙ simp (sym is ∙ f)) }
 
-  module _ (a : h.stage ≡ Sized) where
-    pub rh_early : (h.entries ≡ h.count → ⊥) → Judged h (RH row bits) 12
-    rh_early b = record { is = λ l p. sym (rh h l p row bits ∙ simp (sized h a, ne_eqb h.entries h.count b)) }
-
-    module _ (b : h.entries ≡ h.count) where
+    module _ (t : b ≡ true) where
       pub rh_row : h.n ≤ row → Judged h (RH row bits) 4
-      rh_row c = record { is = λ l p. sym (rh h l p row bits ∙ simp (sized h a, eq-eqb h.entries h.count b, le-leb h.n row c)) }
+      rh_row c = record { is = λ l p. sym (rh h l p row bits ∙ simp (sym is ∙ t, le-leb h.n row c)) }
 
       pub rh_low : row < h.n → row < h.next → Judged h (RH row bits) 5
-      rh_low c d = record {
-        is = λ l p. sym (rh h l p row bits ∙ simp (sized h a, eq-eqb h.entries h.count b, lt-leb h.n row c, lt-ltb row h.next d));
-      }
+      rh_low c d = record { is = λ l p. sym (rh h l p row bits ∙ simp (sym is ∙ t, lt-leb h.n row c, lt-ltb row h.next d)) }
 
       pub rh_sound : row < h.n → h.next ≤ row → Judged h (RH row bits) 0
-      rh_sound c d = record {
-        is = λ l p. sym (rh h l p row bits ∙ simp (sized h a, eq-eqb h.entries h.count b, lt-leb h.n row c, le-ltb row h.next d));
-      }
+      rh_sound c d = record { is = λ l p. sym (rh h l p row bits ∙ simp (sym is ∙ t, lt-leb h.n row c, le-ltb row h.next d)) }
 
-module _ (h : Head) (engine : Engine) where
-  pub go_late : (h.stage ≡ Sized → ⊥) → Judged h (GO (byte engine)) 12
-  go_late a = record { is = λ l p. sym (go h l p engine ∙ simp (not_sized h a)) }
+  module _ (engine : Engine) where
+    pub go_unfilled : b ≡ false → Judged h (GO (byte engine)) 12
+    go_unfilled f = record { is = λ l p. sym (go h l p engine ∙ simp (sym is ∙ f)) }
 
-  module _ (a : h.stage ≡ Sized) where
-    pub go_early : (h.entries ≡ h.count → ⊥) → Judged h (GO (byte engine)) 12
-    go_early b = record { is = λ l p. sym (go h l p engine ∙ simp (sized h a, ne_eqb h.entries h.count b)) }
-
-    pub go_sound : h.entries ≡ h.count → Judged h (GO (byte engine)) 0
-    go_sound b = record { is = λ l p. sym (go h l p engine ∙ simp (sized h a, eq-eqb h.entries h.count b)) }
+    pub go_sound : b ≡ true → Judged h (GO (byte engine)) 0
+    go_sound t = record { is = λ l p. sym (go h l p engine ∙ simp (sym is ∙ t)) }

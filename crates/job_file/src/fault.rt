@@ -1,11 +1,11 @@
 // What refuses a record where it stands, one record kind a function.
-ghost use Rattle.std.specs.Prelude.{◌≡◌, ◌==◌, ◌&&◌, [], ℕ, ◌≤◌, length};
+ghost use Rattle.std.specs.Prelude.{◌≡◌, ◌==◌, ◌&&◌, [], ℕ, ◌≤◌, eqb, length};
 ghost use Rattle.std.specs.List.{list_any, zip};
 ghost use Rattle.job_file.specs.Records.{SZ, EN, RH, GO};
 ghost use Rattle.lists.specs.Refusals.{numbered};
 ghost use Rattle.job_file.specs.Faults.{fault as faultOf};
 ghost use Rattle.job_file.specs.Arrays.{arrays};
-ghost use Rattle.job_file.specs.Told.{byte, told};
+ghost use Rattle.job_file.specs.Told.{byte, place_of, told};
 ghost use Rattle.job_file.specs.Keeping.{held_by, Judged};
 
 use crate::read::{Engine, Head, Stage};
@@ -51,10 +51,17 @@ fn entry_fault(h: Head, row: u32, column: u32, rows: &[u32], columns: &[u32]) ->
     Ok(())
 }
 
+// SZ and every entry have come, and GO has not: the turn of RH and of GO.
+fn is_filled(h: Head) -> bool
+    ensures { result ≡ (eqb (place_of h.stage) 1 && eqb h.entries h.count) }
+{
+    h.stage == Stage::Sized && h.entries == h.count
+}
+
 fn right_fault(h: Head, row: u32) -> Result<(), Refusal>
     ensures { (bits : ℕ) → Judged h (RH row bits) (numbered result) }
 {
-    if h.stage != Stage::Sized || h.entries != h.count {
+    if !is_filled(h) {
         return Err(Refusal::Malformed);
     }
     if row >= h.n {
@@ -69,7 +76,7 @@ fn right_fault(h: Head, row: u32) -> Result<(), Refusal>
 fn go_fault(h: Head, engine: Engine) -> Result<(), Refusal>
     ensures { Judged h (GO (byte engine)) (numbered result) }
 {
-    if h.stage != Stage::Sized || h.entries != h.count {
+    if !is_filled(h) {
         return Err(Refusal::Malformed);
     }
     Ok(())

@@ -94,6 +94,7 @@ fn records(
         next: 0,
     };
     let mut at = 0;
+    // each record moves the place by its own size
     while at < s.len() {
         let r = match record(s, at, h, rows, columns) {
             Ok(r) => r,

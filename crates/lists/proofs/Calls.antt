@@ -158,23 +158,6 @@ not_narrow n s h =
     let c = or-false (ltb (length s.w1) n) _ b.0 in
     record { in_w1 = ltb-false _ _ c.0; in_w2 = ltb-false _ _ c.1; in_w3 = ltb-false _ _ b.1; in_x = ltb-false _ _ a.1 }
 
--- `narrow`, by the first slice that is short
-pub narrow_w1 : (n : ℕ) (s : Scratch) → length s.w1 < n → true ≡ narrow n s
-unfolding narrow
-narrow_w1 n s h = rw (lt-ltb (length s.w1) n h)
-
-pub narrow_w2 : (n : ℕ) (s : Scratch) → n ≤ length s.w1 → length s.w2 < n → true ≡ narrow n s
-unfolding narrow
-narrow_w2 n s f h = rw (le-ltb (length s.w1) n f, lt-ltb (length s.w2) n h)
-
-pub narrow_w3 : (n : ℕ) (s : Scratch) → n ≤ length s.w1 → n ≤ length s.w2 → length s.w3 < n → true ≡ narrow n s
-unfolding narrow
-narrow_w3 n s f g h = rw (le-ltb (length s.w1) n f, le-ltb (length s.w2) n g, lt-ltb (length s.w3) n h)
-
-pub narrow_x : (n : ℕ) (s : Scratch) → n ≤ length s.w1 → n ≤ length s.w2 → n ≤ length s.w3 → ltb (length s.x) n ≡ narrow n s
-unfolding narrow
-narrow_x n s f g h = rw (le-ltb (length s.w1) n f, le-ltb (length s.w2) n g, le-ltb (length s.w3) n h)
-
 -- each slice cleared
 pub wiped_each : (n : ℕ) (s : Scratch) {w1 w2 w3 : List ℕ} {x : List Float} → w1 ≡ cleared 0 n s.w1 → w2 ≡ cleared 0 n s.w2 → w3 ≡ cleared 0 n s.w3
     → x ≡ cleared none n s.x → scratch w1 w2 w3 x ≡ wiped n s

@@ -24,17 +24,9 @@ pub fn clear_scratch(n: usize, w1: &mut [u32], w2: &mut [u32], w3: &mut [u32], x
 }
 
 // Number 6: a scratch slice has fewer than the n elements needed.
+#[tactic(auto, unfolding(crate::specs::Calls::narrow))]
 pub fn too_narrow(n: usize, w1: &[u32], w2: &[u32], w3: &[u32], x: &[f64]) -> bool
     ensures { result ≡ narrow n (scratch w1.now w2.now w3.now x.now) }
 {
-    if w1.len() < n {
-        return true;
-    }
-    if w2.len() < n {
-        return true;
-    }
-    if w3.len() < n {
-        return true;
-    }
-    x.len() < n
+    w1.len() < n || w2.len() < n || w3.len() < n || x.len() < n
 }

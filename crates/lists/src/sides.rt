@@ -1,5 +1,4 @@
-// Two slices side by side, the first element with the first, as far as both go: one pass without an index of its own, so that
-// several are done at a time.
+// Two slices side by side, the first element with the first, as far as both go, so that several are done at a time.
 ghost use Rattle.std.specs.Prelude.{◌≡◌};
 ghost use Rattle.std.specs.Float.{binary64};
 ghost use Rattle.std.specs.Float.Ieee.{add, mul};
@@ -13,8 +12,8 @@ pub fn copy<T: Copy>(from: &[T], out: &mut [T])
     out[..n].copy_from_slice(&from[..n]);
 }
 
-// To each element its value times f is added. The solves and the up factoring subtract, in another order of the factors: their own loops,
-// since no law of std says that the float operations agree.
+// To each element its value times f is added. The solves and the up factoring subtract, in loops of their own: of a step that is handed in,
+// a function has to ask what it answers, and a public function asks nothing.
 pub fn add_times(vals: &[f64], f: f64, x: &mut [f64])
     ensures { x.new ≡ zipped (λ a v. add binary64 a (mul binary64 v f)) x.old vals.now }
 {

@@ -10,7 +10,7 @@ pub gather-pivot-requires : goal.gather-pivot-requires
 gather-pivot-requires c = state_gathers c.requires.served c.requires.none_stray refl c.loop-k.invariant c.loop-k-test.true
 
 pub returns-then-not-pivot : goal.returns-then-not-pivot
-returns-then-not-pivot c = rw c.number.ensures (state_stop c.requires.served c.requires.none_stray refl c.loop-k.invariant c.loop-k-test.true
+returns-then-not-pivot c = rw c.stopped.ensures (state_stop c.requires.served c.requires.none_stray refl c.loop-k.invariant c.loop-k-test.true
     c.gather-pivot.auto.x c.gather-pivot.ensures c.if-not-pivot.true)
 
 pub finish-requires : goal.finish-requires

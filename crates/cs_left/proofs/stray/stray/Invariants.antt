@@ -1,11 +1,9 @@
 -- `stray` meets its contract. Assumes nothing.
-use Prim.Native.Nat.{◌-◌, ◌+◌}
-use lib.ListN.{length}
+use mathlib.Core.Path.{◌≡◌}
+use Prim.Native.Nat.{ℕ}
+use lib.ListN.{drop}
 use Rattle.cs_left.proofs.Straying.{Straying}
 use Rattle.cs_left.proofs.stray.stray.Given as goal
 
-abbrev pub invariant-loop-q : goal.invariant-loop-q
-invariant-loop-q l = Straying l.k l.rows l.held l.q l.at
-
-abbrev pub decreases-loop-q : goal.decreases-loop-q
-decreases-loop-q l = (length l.rows - l.q) + (length l.held - l.at)
+abbrev pub invariant-loop-row : goal.invariant-loop-row
+invariant-loop-row l = (at : ℕ) × (l.rest.rest.now ≡ drop at l.held) × Straying l.k l.rows l.held l.row-index at

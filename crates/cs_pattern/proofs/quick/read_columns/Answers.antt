@@ -4,7 +4,7 @@ use Rattle.lists.proofs.Bools.{not-both}
 use Rattle.std.proofs.Common.{sym, refl, ◌∙◌, true≢false, arith}
 use Rattle.cs_tree.proofs.Backward.{reading_start, reading_turn, reading_done}
 use Rattle.cs_tree.proofs.Filling.{given_walks}
-use Rattle.cs_pattern.proofs.Columns.{inside, outside, as_many, here, part-is, part-rises, columns_long}
+use Rattle.cs_pattern.proofs.Columns.{inside, outside, as_many, rows-are, rows-rise, columns_long}
 use Rattle.cs_pattern.proofs.quick.read_columns.Goals as goal
 
 pub returns-then-up-ne0 : goal.returns-then-up-ne0
@@ -26,15 +26,12 @@ returns-in_default c = (
       )),
 )
 
-pub slice_bounds-read_column-end : goal.slice_bounds-read_column-end
-slice_bounds-read_column-end c = (here c.requires.0 c.loop-k-test.true c.wide-start.ensures.0 c.wide-end.ensures.0).inside
-
 pub read_column-requires : goal.read_column-requires
 read_column-requires c = (
   given_walks c.requires.1 (inside c.requires.0 c.loop-k-test.true) c.loop-k.invariant.m_long,
   c.loop-k.invariant.fresh,
   omega (arith, c.in-Some.ensures.lookup, c.wide-f.ensures.1),
-  part-rises c.requires.0 c.loop-k-test.true c.wide-start.ensures.0 c.wide-end.ensures.0,
+  rows-rise c.requires.0 c.loop-k-test.true c.rows.ensures,
 )
 
 pub returns-then-not-read_column : goal.returns-then-not-read_column
@@ -42,7 +39,7 @@ returns-then-not-read_column c = (
   λ z. absurd (true≢false (sym z)),
   λ d.
       let part = holds_column c.requires.1 d (inside c.requires.0 c.loop-k-test.true) c.wide-b.ensures.0 c.wide-f.ensures.0
-      (part-is c.requires.0 c.loop-k-test.true c.wide-start.ensures.0 c.wide-end.ensures.0) in
+      (rows-are c.requires.0 c.loop-k-test.true c.rows.ensures) in
       absurd (not-both _ (c.read_column.ensures.1 (c.in-Some.ensures.lookup.0.2 ∙ part)) c.if-not-read_column.true),
 )
 
@@ -51,7 +48,7 @@ loop-k-preserved c =
     let given = c.in-Some.ensures.lookup.0 in
     let read = c.read_column.ensures.0 c.if-not-read_column.false in
     reading_turn c.requires.1 c.loop-k.invariant (inside c.requires.0 c.loop-k-test.true)
-    (part-is c.requires.0 c.loop-k-test.true c.wide-start.ensures.0 c.wide-end.ensures.0) c.wide-b.ensures.0 c.wide-f.ensures.0 given.0 given.1
+    (rows-are c.requires.0 c.loop-k-test.true c.rows.ensures) c.wide-b.ensures.0 c.wide-f.ensures.0 given.0 given.1
     c.read_column.auto.mark (rw given.2 at read)
 
 pub returns : goal.returns

@@ -2,29 +2,23 @@
 use Rattle.std.proofs.Common.{rules, arith, length-append, ◌∙◌}
 use Rattle.std.proofs.lemmas.Slice.Zip.{zip_turn, zip_end}
 use lib.Ieee.{nan}
-use Rattle.cs_product.proofs.Meeting.{accumulating_start, accumulating_asks, accumulating_turn, accumulating_done, handed, in_v}
+use Rattle.cs_product.proofs.Meeting.{accumulating_start, accumulating_asks, accumulating_turn, accumulating_done, col_below}
 use Rattle.cs_product.proofs.accumulate.accumulate.Goals as goal
 
 pub loop-col-init : goal.loop-col-init
 loop-col-init c = accumulating_start _ _ _ _ c.requires
 
-pub slice_bounds-add_column-end : goal.slice_bounds-add_column-end
-slice_bounds-add_column-end c =
+pub column-requires : goal.column-requires
+column-requires c =
     let t = zip_turn c.args.rows.now c.args.vals.now _ _ _ c.next.new.self _
     (search rules) (search rules) c.loop-col.yielded_by _ c.in-Some.is c.next.ensures.steps in
-    (handed _ _ _ _ c.loop-col.invariant t.0 (c.wide-c.ensures.0 ∙ t.2 0) c.wide-start.ensures.0 c.wide-end.ensures.0).inside
-
-pub slice_bounds-add_column-end-in-loop-col : goal.slice_bounds-add_column-end-in-loop-col
-slice_bounds-add_column-end-in-loop-col c =
-    let t = zip_turn c.args.rows.now c.args.vals.now _ _ _ c.next.new.self _
-    (search rules) (search rules) c.loop-col.yielded_by _ c.in-Some.is c.next.ensures.steps in
-    in_v _ _ _ _ c.loop-col.invariant t.0 (c.wide-c.ensures.0 ∙ t.2 0) c.wide-start.ensures.0 c.wide-end.ensures.0
+    (c.loop-col.invariant.valid, col_below _ _ _ _ c.loop-col.invariant t.0 (c.wide-c.ensures.0 ∙ t.2 0))
 
 pub add_column-many-requires : goal.add_column-many-requires
 add_column-many-requires c =
     let t = zip_turn c.args.rows.now c.args.vals.now _ _ _ c.next.new.self _
     (search rules) (search rules) c.loop-col.yielded_by _ c.in-Some.is c.next.ensures.steps in
-    accumulating_asks _ _ _ _ c.loop-col.invariant t.0 (c.wide-c.ensures.0 ∙ t.2 0) c.wide-start.ensures.0 c.wide-end.ensures.0
+    accumulating_asks _ _ _ _ c.loop-col.invariant t.0 (c.wide-c.ensures.0 ∙ t.2 0) c.column.ensures
 
 pub loop-col-preserved : goal.loop-col-preserved
 loop-col-preserved c =
@@ -32,7 +26,7 @@ loop-col-preserved c =
     (search rules) (search rules) c.loop-col.yielded_by _ c.in-Some.is c.next.ensures.steps in
     let e = c.add_column-many.ensures.0 in
     rw length-append (accumulating_turn _ _ _ _ c.loop-col.invariant t.0 (c.wide-c.ensures.0 ∙ t.2 0)
-    c.wide-start.ensures.0 c.wide-end.ensures.0 (rw (t.3 nan) at e) c.add_column-many.ensures.1)
+    c.column.ensures (rw (t.3 nan) at e) c.add_column-many.ensures.1)
 
 pub returns : goal.returns
 returns c =

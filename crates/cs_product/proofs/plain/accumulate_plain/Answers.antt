@@ -2,26 +2,20 @@
 use Rattle.std.proofs.Common.{rules, arith, length-append, ◌∙◌}
 use Rattle.std.proofs.lemmas.Slice.Zip.{zip_turn, zip_end}
 use lib.Ieee.{nan}
-use Rattle.cs_product.proofs.Adding.{up_asks, up_turn, up_done, handed, in_v}
+use Rattle.cs_product.proofs.Adding.{up_asks, up_turn, up_done, col_below}
 use Rattle.cs_product.proofs.plain.accumulate_plain.Goals as goal
 
-pub slice_bounds-add_plain-end : goal.slice_bounds-add_plain-end
-slice_bounds-add_plain-end c =
+pub column-requires : goal.column-requires
+column-requires c =
     let t = zip_turn c.args.rows.now c.args.vals.now _ _ _ c.next.new.self _
     (search rules) (search rules) c.loop-col.yielded_by _ c.in-Some.is c.next.ensures.steps in
-    (handed _ _ _ c.loop-col.invariant t.0 (c.wide-c.ensures.0 ∙ t.2 0) c.wide-start.ensures.0 c.wide-end.ensures.0).inside
-
-pub slice_bounds-add_plain-end-in-loop-col : goal.slice_bounds-add_plain-end-in-loop-col
-slice_bounds-add_plain-end-in-loop-col c =
-    let t = zip_turn c.args.rows.now c.args.vals.now _ _ _ c.next.new.self _
-    (search rules) (search rules) c.loop-col.yielded_by _ c.in-Some.is c.next.ensures.steps in
-    in_v _ _ _ c.loop-col.invariant t.0 (c.wide-c.ensures.0 ∙ t.2 0) c.wide-start.ensures.0 c.wide-end.ensures.0
+    (c.loop-col.invariant.ask.valid, col_below _ _ _ c.loop-col.invariant t.0 (c.wide-c.ensures.0 ∙ t.2 0))
 
 pub add_plain-requires : goal.add_plain-requires
 add_plain-requires c =
     let t = zip_turn c.args.rows.now c.args.vals.now _ _ _ c.next.new.self _
     (search rules) (search rules) c.loop-col.yielded_by _ c.in-Some.is c.next.ensures.steps in
-    up_asks _ _ _ c.loop-col.invariant t.0 (c.wide-c.ensures.0 ∙ t.2 0) c.wide-start.ensures.0 c.wide-end.ensures.0
+    up_asks _ _ _ c.loop-col.invariant t.0 (c.wide-c.ensures.0 ∙ t.2 0) c.column.ensures
 
 pub loop-col-preserved : goal.loop-col-preserved
 loop-col-preserved c =
@@ -29,7 +23,7 @@ loop-col-preserved c =
     (search rules) (search rules) c.loop-col.yielded_by _ c.in-Some.is c.next.ensures.steps in
     let e = c.add_plain.ensures in
     rw length-append (up_turn _ _ _ c.loop-col.invariant t.0 (c.wide-c.ensures.0 ∙ t.2 0)
-    c.wide-start.ensures.0 c.wide-end.ensures.0 (rw (t.3 nan) at e) c.add_plain.auto.x)
+    c.column.ensures (rw (t.3 nan) at e) c.add_plain.auto.x)
 
 pub returns : goal.returns
 returns c =

@@ -1,27 +1,23 @@
 -- `fill`: the loop of proofs/Produced.antt. Assumes nothing.
 use native.Mathlib.Omega.{arith}
-use Rattle.cs_product.proofs.Produced.{writing_start, writing_small, writing_handed, writing_bv}
+use Rattle.cs_product.proofs.Produced.{writing_start, writing_small}
 use Rattle.cs_product.proofs.Produced.{writing_asks, writing_turn, writing_done}
 use Rattle.cs_product.proofs.product.fill.Goals as goal
 
 pub loop-j-init : goal.loop-j-init
 loop-j-init c = writing_start _ _ c.requires
 
+pub column-requires : goal.column-requires
+column-requires c = (c.loop-j.invariant.begun.factors.second, c.loop-j-test.true)
+
 pub overflow_cast-op : goal.overflow_cast-op
 overflow_cast-op c = omega (arith, writing_small _ _ c.loop-j.invariant)
 
-pub slice_bounds-write_column-end : goal.slice_bounds-write_column-end
-slice_bounds-write_column-end c = (writing_handed _ _ c.loop-j.invariant c.loop-j-test.true c.wide-start.ensures.0
-    c.wide-end.ensures.0).inside
-
-pub slice_bounds-write_column-end-in-loop-j : goal.slice_bounds-write_column-end-in-loop-j
-slice_bounds-write_column-end-in-loop-j c = writing_bv _ _ c.loop-j.invariant c.loop-j-test.true c.wide-start.ensures.0 c.wide-end.ensures.0
-
 pub write_column-at-requires : goal.write_column-at-requires
-write_column-at-requires c = writing_asks _ _ c.loop-j.invariant c.loop-j-test.true c.wide-start.ensures.0 c.wide-end.ensures.0
+write_column-at-requires c = writing_asks _ _ c.loop-j.invariant c.loop-j-test.true c.column.ensures
 
 pub loop-j-preserved : goal.loop-j-preserved
-loop-j-preserved c = writing_turn _ _ c.loop-j.invariant c.loop-j-test.true c.wide-start.ensures.0 c.wide-end.ensures.0
+loop-j-preserved c = writing_turn _ _ c.loop-j.invariant c.loop-j-test.true c.column.ensures
     c.write_column-at.auto.spare c.write_column-at.ensures.0 c.write_column-at.ensures.1 c.write_column-at.ensures.2 c.write_column-at.ensures.3
 
 pub returns : goal.returns

@@ -1,18 +1,18 @@
 -- `bound`: the loop of proofs/Produced.antt. Assumes nothing.
-use Rattle.cs_product.proofs.Produced.{bounding_start, bounding_handed, bounding_asks, bounding_turn, bounding_done}
+use Rattle.cs_product.proofs.Produced.{bounding_start, bounding_asks, bounding_turn, bounding_done}
 use Rattle.cs_product.proofs.room.bound.Goals as goal
 
 pub loop-j-init : goal.loop-j-init
 loop-j-init c = bounding_start _ _ c.requires
 
-pub slice_bounds-span_of-end : goal.slice_bounds-span_of-end
-slice_bounds-span_of-end c = (bounding_handed _ _ c.loop-j.invariant c.loop-j-test.true c.wide-start.ensures.0 c.wide-end.ensures.0).inside
+pub column-requires : goal.column-requires
+column-requires c = (c.loop-j.invariant.ask.second, c.loop-j-test.true)
 
 pub span_of-span-requires : goal.span_of-span-requires
-span_of-span-requires c = bounding_asks _ _ c.loop-j.invariant c.loop-j-test.true c.wide-start.ensures.0 c.wide-end.ensures.0
+span_of-span-requires c = bounding_asks _ _ c.loop-j.invariant c.loop-j-test.true c.column.ensures
 
 pub loop-j-preserved : goal.loop-j-preserved
-loop-j-preserved c = bounding_turn _ _ c.loop-j.invariant c.loop-j-test.true c.wide-start.ensures.0 c.wide-end.ensures.0 c.span_of-span.ensures
+loop-j-preserved c = bounding_turn _ _ c.loop-j.invariant c.loop-j-test.true c.column.ensures c.span_of-span.ensures
     c.min-most.ensures
 
 pub returns : goal.returns
