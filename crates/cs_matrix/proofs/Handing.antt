@@ -9,6 +9,7 @@ use lib.ListN.{length, get_or, take, drop}
 use Rattle.std.proofs.lemmas.List.{get_or_past}
 use Rattle.lists.specs.Order.{rises}
 use Rattle.lists.specs.Parts.{part}
+use Rattle.lists.proofs.Parts.{part-below as below-part}
 use Rattle.cs_matrix.specs.Matrix.{Matrix, Valid, column}
 use Rattle.cs_matrix.specs.Columns.{IsColumn}
 use Rattle.cs_matrix.proofs.Pointers.{between, column-is, length-column}
@@ -31,6 +32,11 @@ module _ {a : Matrix} (w : Valid a) {j : ℕ} where
 
     pub column-up : rises rows ≡ true
     column-up = rw c.rows_are (w.pattern.rise j h)
+
+    pub column-below : (k : ℕ) → k < length rows → get_or rows k 0 < a.pattern.nrows
+    column-below =
+        let b = between w.pattern.ptrs w.pattern.p_long h refl refl in
+        rw (c.rows_are, ← column-is b a.pattern.i) (below-part _ _ a.pattern.nrows a.pattern.i b.inside w.pattern.below)
 
   pub past_end : a.pattern.ncols ≤ j → IsColumn a j [] []
   unfolding column
