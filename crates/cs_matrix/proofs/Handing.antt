@@ -15,6 +15,9 @@ use Rattle.cs_matrix.specs.Columns.{IsColumn}
 use Rattle.cs_matrix.proofs.Pointers.{between, column-is, length-column}
 
 module _ {a : Matrix} (w : Valid a) {j : ℕ} where
+  pub j_small : j < a.pattern.ncols → j < 65535
+  j_small h = omega (arith, w.pattern.cols)
+
   module _ (h : j < a.pattern.ncols) {s e : ℕ} (f : s ≡ get_or a.pattern.p j 0) (g : e ≡ get_or a.pattern.p (j + 1) 0) where
     pub inside : e ≤ length a.pattern.i
     inside = (between w.pattern.ptrs w.pattern.p_long h f g).inside
