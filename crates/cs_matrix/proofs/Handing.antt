@@ -33,6 +33,9 @@ module _ {a : Matrix} (w : Valid a) {j : ℕ} where
     column-alike = rw (c.rows_are, c.vals_are) (length-column a.pattern.p j a.v (inside_v h refl refl) ∙
         sym (length-column a.pattern.p j a.pattern.i (inside h refl refl)))
 
+    pub column-few : length rows ≤ length a.pattern.i
+    column-few = rw c.rows_are (omega (arith, length-column a.pattern.p j a.pattern.i (inside h refl refl), inside h refl refl))
+
     pub column-up : rises rows ≡ true
     column-up = rw c.rows_are (w.pattern.rise j h)
 

@@ -1,5 +1,5 @@
 -- `column`: the part between its two pointers. Assumes nothing.
-use Rattle.cs_columns.proofs.Handing.{inside, inside_v, column-handed}
+use Rattle.cs_matrix.proofs.Handing.{inside, inside_v, column-handed}
 use Rattle.cs_product.proofs.column.column.Goals as goal
 
 pub slice_bounds-result-end : goal.slice_bounds-result-end
