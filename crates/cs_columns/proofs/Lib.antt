@@ -2,4 +2,3 @@ pub mod Judging
 pub mod Joining
 pub mod Filling
 pub mod Merging
-pub mod Handing

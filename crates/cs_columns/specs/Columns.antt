@@ -6,11 +6,6 @@ use Rattle.lists.specs.Order.{lists}
 use Rattle.lists.specs.Tables.{table}
 use Rattle.cs_matrix.specs.Matrix.{Matrix, matrix, column, judged, short_by}
 
--- the rows and values of column j
-pub record IsColumn (a : Matrix) (j : ℕ) (rows : List ℕ) (vals : List Float) : Type 0 where
-  pub rows_are : rows ≡ column a.pattern.p j a.pattern.i
-  pub vals_are : vals ≡ column a.pattern.p j a.v
-
 module _ {A : Type 0} where
   -- the items of the columns below n, one column behind another
   unfoldable pub joined : (ℕ → List A) → ℕ → List A

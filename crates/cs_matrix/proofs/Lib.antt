@@ -5,3 +5,4 @@ pub mod Falling
 pub mod Rooms
 pub mod Values
 pub mod Squaring
+pub mod Handing

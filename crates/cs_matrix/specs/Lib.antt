@@ -1,4 +1,5 @@
 pub mod Lent
 pub mod Matrix
 pub mod Falls
+pub mod Columns
 pub mod Cases

@@ -2,6 +2,8 @@
 #![tactic(auto)]
 
 pub mod check;
+pub mod columns;
 pub mod matrix;
 pub mod room;
 pub mod square;
+pub mod valid;

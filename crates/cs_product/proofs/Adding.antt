@@ -11,8 +11,8 @@ use Rattle.lists.specs.Folds.{over}
 use Rattle.lists.specs.Order.{rises}
 use Rattle.lists.proofs.Folds.{Over, over-start, over-turn, over-end}
 use Rattle.cs_matrix.specs.Matrix.{Matrix}
-use Rattle.cs_columns.specs.Columns.{IsColumn}
-use Rattle.cs_columns.proofs.Handing.{column-alike, column-below, column-up}
+use Rattle.cs_matrix.specs.Columns.{IsColumn}
+use Rattle.cs_matrix.proofs.Handing.{column-alike, column-below, column-up}
 use Rattle.cs_product.specs.Product.{add_column}
 use Rattle.cs_product.specs.Steps.{Plain}
 

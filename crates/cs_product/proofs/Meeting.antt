@@ -20,8 +20,8 @@ use Rattle.lists.proofs.Bools.{eq-or-ne, not-both, or-none, or-false}
 use Rattle.lists.proofs.Chosen.{chosen-within}
 use Rattle.lists.proofs.Folds.{Over, over-start, over-turn, over-end}
 use Rattle.cs_matrix.specs.Matrix.{Matrix, Valid}
-use Rattle.cs_columns.specs.Columns.{IsColumn}
-use Rattle.cs_columns.proofs.Handing.{column-alike, column-below}
+use Rattle.cs_matrix.specs.Columns.{IsColumn}
+use Rattle.cs_matrix.proofs.Handing.{column-alike, column-below}
 use Rattle.lists.proofs.Skipping.{lists_nowhere}
 use Rattle.cs_product.specs.Product.{add_column}
 use Rattle.cs_product.specs.Steps.{Met, Fresh, Adding, Starting}

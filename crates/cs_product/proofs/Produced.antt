@@ -18,10 +18,11 @@ use Rattle.lists.proofs.Laying.{part_long}
 use Rattle.lists.proofs.Returning.{front-zeros, cleared-after}
 use Rattle.lists.proofs.Tables.{length-table}
 use Rattle.cs_matrix.specs.Matrix.{Matrix, Stored, stored, short, written, Valid}
-use Rattle.cs_columns.specs.Columns.{IsColumn, joined, with_columns, with_entries, laid, judged_two, short_for}
+use Rattle.cs_matrix.specs.Columns.{IsColumn}
+use Rattle.cs_columns.specs.Columns.{joined, with_columns, with_entries, laid, judged_two, short_for}
 use Rattle.cs_columns.proofs.Filling.{Filling, filling_start, filling_turn, filling_end, filling_at, filling_i, filling_v, room_i, room_v, room_p}
 use Rattle.cs_columns.proofs.Filling.{room-all}
-use Rattle.cs_columns.proofs.Handing.{column-alike, column-few, column-below}
+use Rattle.cs_matrix.proofs.Handing.{column-alike, column-few, column-below}
 use Rattle.cs_columns.proofs.Joining.{joined-none, length_more, joined_alike, entries-within, entries_valid}
 use Rattle.cs_columns.proofs.Judging.{alone_7, early_two, Passed, passed, Roomy, roomy, short_fewer, short_for_lem}
 use Rattle.cs_product.specs.Product.{accumulated, remains, row_of, value_of, product, needed_two, number}

@@ -7,8 +7,8 @@ ghost use Rattle.cs_matrix.specs.Lent.{matrix_of};
 ghost use Rattle.cs_product.specs.Product.{add_column};
 ghost use Rattle.cs_product.specs.Steps.{Met, Adding, Starting};
 
-use crate::column::column;
-use cs_matrix::matrix::Matrix;
+use cs_matrix::columns::column;
+use cs_matrix::valid::ValidMatrix;
 use lists::numbers::wide;
 
 // A column of A times β, added to x. The answer is how many rows are met now.
@@ -40,7 +40,7 @@ fn add_column(
 
 // A times a column of B, in x, which is all +0.0. The answer is how many rows were met.
 pub fn accumulate(
-    a: Matrix<'_>,
+    a: ValidMatrix<'_>,
     stamp: u32,
     rows: &[u32],
     vals: &[f64],
@@ -48,15 +48,15 @@ pub fn accumulate(
     met: &mut [u32],
     x: &mut [f64],
 ) -> usize
-    requires { Starting (matrix_of a) stamp rows.now vals.now mark.old met.old x.old }
-    ensures { (x.new ≡ over (add_column (matrix_of a.entry)) rows.now vals.now x.old) ×
-        Met a.entry.pattern.nrows stamp mark.new met.new x.new result }
+    requires { Starting (matrix_of a.matrix) stamp rows.now vals.now mark.old met.old x.old }
+    ensures { (x.new ≡ over (add_column (matrix_of a.entry.matrix)) rows.now vals.now x.old) ×
+        Met a.entry.matrix.pattern.nrows stamp mark.new met.new x.new result }
 {
     let mut many = 0;
     for (&col, &val) in rows.iter().zip(vals) {
         let c = wide(col);
-        let (a_rows, a_vals) = column(a, c);
-        many = add_column(stamp, val, a_rows, a_vals, mark, met, x, many);
+        let part = column(a, c);
+        many = add_column(stamp, val, part.rows, part.vals, mark, met, x, many);
     }
     many
 }

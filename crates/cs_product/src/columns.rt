@@ -15,11 +15,11 @@ use crate::plain::accumulate_plain;
 use crate::sorting::sort;
 use crate::span::{Span, span_of};
 use crate::sweep::sweep;
-use cs_matrix::matrix::Matrix;
+use cs_matrix::valid::ValidMatrix;
 
 // How many rows of the column remain.
 pub fn count_column(
-    a: Matrix<'_>,
+    a: ValidMatrix<'_>,
     stamp: u32,
     rows: &[u32],
     vals: &[f64],
@@ -27,9 +27,9 @@ pub fn count_column(
     met: &mut [u32],
     x: &mut [f64],
 ) -> usize
-    requires { Starting (matrix_of a) stamp rows.now vals.now mark.old met.old x.old }
-    ensures { let w = column_of (matrix_of a.entry) rows.now vals.now in
-        (result ≡ length (chosen a.entry.pattern.nrows (remains w))) × Fresh a.entry.pattern.nrows (stamp + 1) mark.new met.new x.new }
+    requires { Starting (matrix_of a.matrix) stamp rows.now vals.now mark.old met.old x.old }
+    ensures { let w = column_of (matrix_of a.entry.matrix) rows.now vals.now in
+        (result ≡ length (chosen a.entry.matrix.pattern.nrows (remains w))) × Fresh a.entry.matrix.pattern.nrows (stamp + 1) mark.new met.new x.new }
 {
     let many = accumulate(a, stamp, rows, vals, mark, met, x);
     count_remaining(&met[0..many], x)
@@ -37,7 +37,7 @@ pub fn count_column(
 
 // What remains of the column, by the rows that were met, put in order.
 fn write_listed(
-    a: Matrix<'_>,
+    a: ValidMatrix<'_>,
     stamp: u32,
     rows: &[u32],
     vals: &[f64],
@@ -49,11 +49,11 @@ fn write_listed(
     oi: &mut [u32],
     ov: &mut [f64],
 ) -> usize
-    requires { Column (matrix_of a) stamp rows.now vals.now start mark.old met.old spare.old x.old oi.old ov.old }
-    ensures { let w = column_of (matrix_of a.entry) rows.now vals.now in
-        let l = chosen a.entry.pattern.nrows (remains w) in
+    requires { Column (matrix_of a.matrix) stamp rows.now vals.now start mark.old met.old spare.old x.old oi.old ov.old }
+    ensures { let w = column_of (matrix_of a.entry.matrix) rows.now vals.now in
+        let l = chosen a.entry.matrix.pattern.nrows (remains w) in
         (result ≡ start + length l) × (oi.new ≡ laid start oi.old l) × (ov.new ≡ laid start ov.old (map (λ j. get_or w j nan) l)) ×
-        Fresh a.entry.pattern.nrows (stamp + 1) mark.new met.new x.new }
+        Fresh a.entry.matrix.pattern.nrows (stamp + 1) mark.new met.new x.new }
 {
     let many = accumulate(a, stamp, rows, vals, mark, met, x);
     sort(&mut met[0..many], spare);
@@ -62,7 +62,7 @@ fn write_listed(
 
 // What remains of the column, by its span.
 fn write_dense(
-    a: Matrix<'_>,
+    a: ValidMatrix<'_>,
     rows: &[u32],
     vals: &[f64],
     span: Span,
@@ -71,11 +71,11 @@ fn write_dense(
     oi: &mut [u32],
     ov: &mut [f64],
 ) -> usize
-    requires { Dense (matrix_of a) rows.now vals.now span.lo span.hi start x.old oi.old ov.old }
-    ensures { let w = column_of (matrix_of a.entry) rows.now vals.now in
-        let l = chosen a.entry.pattern.nrows (remains w) in
+    requires { Dense (matrix_of a.matrix) rows.now vals.now span.lo span.hi start x.old oi.old ov.old }
+    ensures { let w = column_of (matrix_of a.entry.matrix) rows.now vals.now in
+        let l = chosen a.entry.matrix.pattern.nrows (remains w) in
         (result ≡ start + length l) × (oi.new ≡ laid start oi.old l) × (ov.new ≡ laid start ov.old (map (λ j. get_or w j nan) l)) ×
-        (x.new ≡ replicate a.entry.pattern.nrows none) }
+        (x.new ≡ replicate a.entry.matrix.pattern.nrows none) }
 {
     accumulate_plain(a, rows, vals, x);
     sweep(span.lo, span.hi, start, x, oi, ov)
@@ -83,7 +83,7 @@ fn write_dense(
 
 // The rows of the column that remain and their values, written from `start` on. The answer is the place behind them.
 pub fn write_column(
-    a: Matrix<'_>,
+    a: ValidMatrix<'_>,
     stamp: u32,
     rows: &[u32],
     vals: &[f64],
@@ -95,13 +95,13 @@ pub fn write_column(
     oi: &mut [u32],
     ov: &mut [f64],
 ) -> usize
-    requires { Column (matrix_of a) stamp rows.now vals.now start mark.old met.old spare.old x.old oi.old ov.old }
-    ensures { let w = column_of (matrix_of a.entry) rows.now vals.now in
-        let l = chosen a.entry.pattern.nrows (remains w) in
+    requires { Column (matrix_of a.matrix) stamp rows.now vals.now start mark.old met.old spare.old x.old oi.old ov.old }
+    ensures { let w = column_of (matrix_of a.entry.matrix) rows.now vals.now in
+        let l = chosen a.entry.matrix.pattern.nrows (remains w) in
         (result ≡ start + length l) × (oi.new ≡ laid start oi.old l) × (ov.new ≡ laid start ov.old (map (λ j. get_or w j nan) l)) ×
-        Fresh a.entry.pattern.nrows (stamp + 1) mark.new met.new x.new }
+        Fresh a.entry.matrix.pattern.nrows (stamp + 1) mark.new met.new x.new }
 {
-    let span = span_of(a.pattern, rows);
+    let span = span_of(a.matrix.pattern, rows);
     if span.hi - span.lo <= 2 * span.work {
         return write_dense(a, rows, vals, span, start, x, oi, ov);
     }

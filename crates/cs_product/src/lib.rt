@@ -2,7 +2,6 @@
 #![tactic(auto)]
 
 mod accumulate;
-mod column;
 mod columns;
 mod gather;
 mod plain;

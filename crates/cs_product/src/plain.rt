@@ -7,8 +7,8 @@ ghost use Rattle.cs_matrix.specs.Lent.{matrix_of};
 ghost use Rattle.cs_product.specs.Product.{add_column};
 ghost use Rattle.cs_product.specs.Steps.{Plain};
 
-use crate::column::column;
-use cs_matrix::matrix::Matrix;
+use cs_matrix::columns::column;
+use cs_matrix::valid::ValidMatrix;
 use lists::numbers::wide;
 use lists::sides::add_times;
 use lists::tight::tight;
@@ -39,13 +39,13 @@ fn add_plain(beta: f64, rows: &[u32], vals: &[f64], x: &mut [f64])
 }
 
 // A times a column of B, added to x.
-pub fn accumulate_plain(a: Matrix<'_>, rows: &[u32], vals: &[f64], x: &mut [f64])
-    requires { Plain (matrix_of a) rows.now vals.now x.old }
-    ensures { x.new ≡ over (add_column (matrix_of a.entry)) rows.now vals.now x.old }
+pub fn accumulate_plain(a: ValidMatrix<'_>, rows: &[u32], vals: &[f64], x: &mut [f64])
+    requires { Plain (matrix_of a.matrix) rows.now vals.now x.old }
+    ensures { x.new ≡ over (add_column (matrix_of a.entry.matrix)) rows.now vals.now x.old }
 {
     for (&col, &val) in rows.iter().zip(vals) {
         let c = wide(col);
-        let (a_rows, a_vals) = column(a, c);
-        add_plain(val, a_rows, a_vals, x);
+        let part = column(a, c);
+        add_plain(val, part.rows, part.vals, x);
     }
 }

@@ -7,18 +7,19 @@ ghost use Rattle.cs_matrix.specs.Matrix.{stored, short, written, Valid};
 ghost use Rattle.cs_product.specs.Product.{product as productOf, needed_two, number};
 ghost use Rattle.cs_product.specs.Steps.{Ready, Clean};
 
-use crate::column::column;
 use crate::columns::write_column;
 use crate::room::check_room;
 use cs_columns::judge::check_two;
+use cs_matrix::columns::column;
 use cs_matrix::matrix::{Matrix, Pattern};
+use cs_matrix::valid::ValidMatrix;
 use lists::clear::{self, clear_scratch, too_narrow};
 use lists::refusal::Refusal;
 
 // The product, into outputs that have room.
 fn fill(
-    a: Matrix<'_>,
-    b: Matrix<'_>,
+    a: ValidMatrix<'_>,
+    b: ValidMatrix<'_>,
     mark: &mut [u32],
     met: &mut [u32],
     spare: &mut [u32],
@@ -27,20 +28,20 @@ fn fill(
     oi: &mut [u32],
     ov: &mut [f64],
 )
-    requires { Ready (matrix_of a) (matrix_of b) mark.old met.old spare.old x.old (stored op.old oi.old ov.old) }
+    requires { Ready (matrix_of a.matrix) (matrix_of b.matrix) mark.old met.old spare.old x.old (stored op.old oi.old ov.old) }
     ensures { stored op.new oi.new ov.new
-        ≡ written (productOf (matrix_of a.entry) (matrix_of b.entry)) (stored op.old oi.old ov.old) }
+        ≡ written (productOf (matrix_of a.entry.matrix) (matrix_of b.entry.matrix)) (stored op.old oi.old ov.old) }
 {
-    let ncols = b.pattern.ncols;
+    let ncols = b.matrix.pattern.ncols;
     let mut at = 0;
     for j in 0..ncols {
         op[j] = at as u32;
-        let (rows, vals) = column(b, j);
+        let col = column(b, j);
         at = write_column(
             a,
             (j + 1) as u32,
-            rows,
-            vals,
+            col.rows,
+            col.vals,
             at,
             mark,
             met,
@@ -55,8 +56,8 @@ fn fill(
 
 // Number 7 or the product, on scratch that is cleared.
 fn serve(
-    a: Matrix<'_>,
-    b: Matrix<'_>,
+    a: ValidMatrix<'_>,
+    b: ValidMatrix<'_>,
     op: &mut [u32],
     oi: &mut [u32],
     ov: &mut [f64],
@@ -65,16 +66,16 @@ fn serve(
     spare: &mut [u32],
     x: &mut [f64],
 ) -> Result<(), Refusal>
-    requires { Clean (matrix_of a) (matrix_of b) mark.old met.old spare.old x.old }
-    ensures { let a = matrix_of a.entry in
-        let b = matrix_of b.entry in
+    requires { Clean (matrix_of a.matrix) (matrix_of b.matrix) mark.old met.old spare.old x.old }
+    ensures { let a = matrix_of a.entry.matrix in
+        let b = matrix_of b.entry.matrix in
         let old = stored op.old oi.old ov.old in
         let new = stored op.new oi.new ov.new in
         (numbered result ≡ lowest ((7, short (productOf a b) old) ∷ [])) ×
         (new ≡ outputs (numbered result) (written (productOf a b) old) old) × (numbered result ≡ 0 → Valid (productOf a b)) }
 {
     check_room(a, b, op.len(), oi.len(), ov.len(), mark, met, x)?;
-    clear::fill(0, a.pattern.nrows, mark);
+    clear::fill(0, a.matrix.pattern.nrows, mark);
     fill(a, b, mark, met, spare, x, op, oi, ov);
     Ok(())
 }
@@ -107,8 +108,8 @@ pub fn product(
     }
     clear_scratch(need, w1, w2, w3, x);
     let answer = serve(
-        a,
-        b,
+        ValidMatrix { matrix: a },
+        ValidMatrix { matrix: b },
         op,
         oi,
         ov,

@@ -10,11 +10,12 @@ use Rattle.lists.specs.Folds.{turns}
 use Rattle.lists.specs.Order.{rises}
 use Rattle.lists.proofs.Folds.{turns-none, turns_more, turns-end, Falls, falls-turn, falls-end}
 use Rattle.cs_matrix.specs.Matrix.{Matrix, value_at}
-use Rattle.cs_solve.specs.Diagonal.{IsColumn}
+use Rattle.cs_matrix.specs.Columns.{IsColumn}
+use Rattle.cs_matrix.proofs.Handing.{column-alike, column-below}
 use Rattle.cs_solve.specs.Judge.{Passed}
 use Rattle.cs_solve.specs.Solve.{forward_at, forward_column, forward}
 use Rattle.cs_solve.specs.TrSolve.{transposed_at, transposed_column, transposed, Column}
-use Rattle.cs_solve.proofs.Columns.{diagonal-is, column-alike, column-below}
+use Rattle.cs_solve.proofs.Columns.{diagonal-is}
 use Rattle.cs_solve.proofs.Steps.{length-forward_column, length-transposed_at}
 
 -- ---- rising

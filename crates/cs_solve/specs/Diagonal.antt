@@ -1,13 +1,8 @@
 -- The diagonal of a column, as every solve reads it. Assumes nothing.
-use Rattle.std.specs.Prelude.{Bool, List, ◌≡◌, ℕ, Float}
+use Rattle.std.specs.Prelude.{Bool, ℕ, Float}
 use Rattle.std.specs.Float.Ieee.{eq}
 use Rattle.lists.specs.Calls.{none}
 use Rattle.cs_matrix.specs.Matrix.{Matrix, column, value_at}
-
--- the rows and values of column j
-pub record IsColumn (a : Matrix) (j : ℕ) (rows : List ℕ) (vals : List Float) : Type 0 where
-  pub rows_are : rows ≡ column a.pattern.p j a.pattern.i
-  pub vals_are : vals ≡ column a.pattern.p j a.v
 
 -- the diagonal of column j
 unfoldable pub diagonal : Matrix → ℕ → Float

@@ -13,9 +13,11 @@ ghost use Rattle.cs_solve.specs.Solve.{lower_at, forward_at, forward as forwardO
 ghost use Rattle.cs_solve.specs.TrSolve.{Column};
 
 use crate::Solved;
-use crate::diagonal::{column, value_at};
+use crate::diagonal::value_at;
 use crate::judge::{first_lacking, judge};
+use cs_matrix::columns::column;
 use cs_matrix::matrix::Matrix;
+use cs_matrix::valid::ValidMatrix;
 use lists::numbers::wide;
 use lists::tight::tight;
 
@@ -78,14 +80,14 @@ fn forward_column(j: usize, d: f64, rows: &[u32], vals: &[f64], b: &mut [f64])
 }
 
 // All columns, rising.
-fn forward(a: Matrix<'_>, b: &mut [f64])
-    requires { Passed (matrix_of a) (length b.old) }
-    ensures { b.new ≡ forwardOf (matrix_of a.entry) b.old }
+fn forward(a: ValidMatrix<'_>, b: &mut [f64])
+    requires { Passed (matrix_of a.matrix) (length b.old) }
+    ensures { b.new ≡ forwardOf (matrix_of a.entry.matrix) b.old }
 {
-    for j in 0..a.pattern.ncols {
-        let (rows, vals) = column(a, j);
-        let d = value_at(j, rows, vals);
-        forward_column(j, d, rows, vals, b);
+    for j in 0..a.matrix.pattern.ncols {
+        let col = column(a, j);
+        let d = value_at(j, col.rows, col.vals);
+        forward_column(j, d, col.rows, col.vals, b);
     }
 }
 
@@ -98,9 +100,10 @@ pub fn solve_lower_triangular(a: Matrix<'_>, b: &mut [f64]) -> Solved
     if let Err(refusal) = judge(a, b.len()) {
         return Solved::refused(refusal);
     }
-    if let Some(column) = first_lacking(a) {
+    let valid = ValidMatrix { matrix: a };
+    if let Some(column) = first_lacking(valid) {
         return Solved::lacking(column as u32);
     }
-    forward(a, b);
+    forward(valid, b);
     Solved::DONE
 }

@@ -8,9 +8,11 @@ ghost use Rattle.cs_solve.specs.Judge.{number, answer, lacking_columns, Passed};
 ghost use Rattle.cs_solve.specs.TrSolve.{raise_at, transposed_at, transposed as transposedOf, Column};
 
 use crate::Solved;
-use crate::diagonal::{column, value_at};
+use crate::diagonal::value_at;
 use crate::judge::{judge, last_lacking};
+use cs_matrix::columns::column;
 use cs_matrix::matrix::Matrix;
+use cs_matrix::valid::ValidMatrix;
 use lists::numbers::wide;
 
 // b(j) after b(j) = b(j) - (value times b(i)) for the lower rows i of column j.
@@ -38,14 +40,14 @@ fn transposed_at(j: usize, d: f64, rows: &[u32], vals: &[f64], b: &mut [f64])
 }
 
 // All columns, falling.
-fn transposed(a: Matrix<'_>, b: &mut [f64])
-    requires { Passed (matrix_of a) (length b.old) }
-    ensures { b.new ≡ transposedOf (matrix_of a.entry) b.old }
+fn transposed(a: ValidMatrix<'_>, b: &mut [f64])
+    requires { Passed (matrix_of a.matrix) (length b.old) }
+    ensures { b.new ≡ transposedOf (matrix_of a.entry.matrix) b.old }
 {
-    for j in (0..a.pattern.ncols).rev() {
-        let (rows, vals) = column(a, j);
-        let d = value_at(j, rows, vals);
-        transposed_at(j, d, rows, vals, b);
+    for j in (0..a.matrix.pattern.ncols).rev() {
+        let col = column(a, j);
+        let d = value_at(j, col.rows, col.vals);
+        transposed_at(j, d, col.rows, col.vals, b);
     }
 }
 
@@ -59,9 +61,10 @@ pub fn tr_solve_lower_triangular(a: Matrix<'_>, b: &mut [f64]) -> Solved
     if let Err(refusal) = judge(a, b.len()) {
         return Solved::refused(refusal);
     }
-    if let Some(column) = last_lacking(a) {
+    let valid = ValidMatrix { matrix: a };
+    if let Some(column) = last_lacking(valid) {
         return Solved::lacking(column as u32);
     }
-    transposed(a, b);
+    transposed(valid, b);
     Solved::DONE
 }

@@ -15,7 +15,8 @@ use borrow.Author.Tests.{le-ltb, le-leb, eq-eqb, ne_eqb}
 use Rattle.lists.specs.Choices.{chosen, some_of}
 use Rattle.lists.specs.Order.{lists}
 use Rattle.cs_matrix.specs.Matrix.{Pattern, Matrix, Valid, column}
-use Rattle.cs_solve.specs.Diagonal.{lacking, IsColumn}
+use Rattle.cs_matrix.specs.Columns.{IsColumn}
+use Rattle.cs_solve.specs.Diagonal.{lacking}
 use Rattle.cs_solve_cs.specs.Reach.{stores, touched, reached_below, reached}
 use Rattle.cs_solve_cs.specs.Steps.{mark_all, marked, marks}
 use Rattle.lists.proofs.Chosen.{some_of-append, chosen_alike, chosen-within}

@@ -17,7 +17,7 @@ use Rattle.lists.proofs.Choices.{chosen_more, chosen-same}
 use Rattle.lists.proofs.Parts.{onto-more, onto-none, length-onto}
 use Rattle.lists.proofs.Positions.{over-keeps}
 use Rattle.cs_matrix.specs.Matrix.{Matrix, value_at, Valid}
-use Rattle.cs_solve.specs.Diagonal.{IsColumn}
+use Rattle.cs_matrix.specs.Columns.{IsColumn}
 use Rattle.cs_solve.specs.Solve.{lower_at, forward_at, forward_column}
 use Rattle.cs_solve.proofs.Steps.{lower-set, lower-above, length-forward_column}
 use Rattle.cs_solve.proofs.Turns.{forward-step}

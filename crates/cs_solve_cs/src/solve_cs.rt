@@ -14,6 +14,7 @@ use crate::reach::reach;
 use crate::steps::{forward, put};
 use cs_matrix::check::{check, check_vector};
 use cs_matrix::matrix::{Matrix, Pattern, Vector};
+use cs_matrix::valid::ValidMatrix;
 use cs_solve::Solved;
 use lists::clear::{clear_scratch, fill, too_narrow};
 use lists::refusal::{Refusal, lower};
@@ -32,15 +33,15 @@ fn judge(a: Matrix<'_>, b: Vector<'_>) -> Result<(), Refusal>
 
 // 7, 10 or the result, on scratch of as many elements as there are columns, which is cleared.
 fn serve(
-    a: Matrix<'_>,
+    a: ValidMatrix<'_>,
     b: Vector<'_>,
     xi: &mut [u32],
     xv: &mut [f64],
     w: &mut [u32],
     x: &mut [f64],
 ) -> Solved
-    requires { Ready (matrix_of a) (vector_of b) w.old x.old }
-    ensures { let a = matrix_of a.entry in
+    requires { Ready (matrix_of a.matrix) (vector_of b) w.old x.old }
+    ensures { let a = matrix_of a.entry.matrix in
         let b = vector_of b.entry in
         let old = stored xi.old xv.old in
         let new = stored xi.new xv.new in
@@ -92,7 +93,8 @@ pub fn solve_lower_triangular_cs(
         return Solved::refused(Refusal::NoScratch);
     }
     clear_scratch(need, w1, w2, w3, x);
-    let served = serve(a, b, xi, xv, &mut w1[0..ncols], &mut x[0..ncols]);
+    let valid = ValidMatrix { matrix: a };
+    let served = serve(valid, b, xi, xv, &mut w1[0..ncols], &mut x[0..ncols]);
     fill(0, need, w1);
     fill(0.0, need, x);
     served

@@ -4,28 +4,15 @@ ghost use Rattle.std.specs.Float.{nan};
 ghost use Rattle.lists.specs.Calls.{onto};
 ghost use Rattle.lists.specs.Folds.{along, over};
 ghost use Rattle.cs_matrix.specs.Lent.{matrix_of};
-ghost use Rattle.cs_matrix.specs.Matrix.{Valid};
-ghost use Rattle.cs_solve.specs.Diagonal.{IsColumn};
 ghost use Rattle.cs_solve.specs.Solve.{forward_column};
 ghost use Rattle.cs_solve_cs.specs.SolveCs.{put_at};
 ghost use Rattle.cs_solve_cs.specs.Steps.{marks, Room};
 
-use cs_matrix::matrix::{Matrix, Pattern};
+use cs_matrix::columns::column;
+use cs_matrix::valid::ValidMatrix;
 use cs_solve::diagonal::value_at;
 use cs_solve::solve::forward_at;
 use lists::numbers::wide;
-
-// The rows of column j, and their values. cs_solve has the same; it asks something, so that it cannot be public there.
-pub fn column<'a>(a: Matrix<'a>, j: usize) -> (&'a [u32], &'a [f64])
-    requires { Valid (matrix_of a) × (j < a.pattern.ncols) }
-    ensures { IsColumn (matrix_of a.entry) j result.0.now result.1.now }
-{
-    let Matrix { pattern, v } = a;
-    let Pattern { p, i, .. } = pattern;
-    let s = wide(p[j]);
-    let e = wide(p[j + 1]);
-    (&i[s..e], &v[s..e])
-}
 
 // Each value at its row.
 pub fn put(rows: &[u32], vals: &[f64], x: &mut [f64])
@@ -50,19 +37,19 @@ fn push(row: usize, value: f64, at: usize, xi: &mut [u32], xv: &mut [f64]) -> us
 }
 
 // The forward steps over the marked columns, rising. No later column changes the value of this one, so that each is written at once.
-pub fn forward(a: Matrix<'_>, w: &[u32], x: &mut [f64], xi: &mut [u32], xv: &mut [f64])
-    requires { Valid (matrix_of a) × Room a.pattern.ncols w.now x.old xi.old xv.old }
-    ensures { let a = matrix_of a.entry in
+pub fn forward(a: ValidMatrix<'_>, w: &[u32], x: &mut [f64], xi: &mut [u32], xv: &mut [f64])
+    requires { Room a.matrix.pattern.ncols w.now x.old xi.old xv.old }
+    ensures { let a = matrix_of a.entry.matrix in
         let l = marks a.pattern.ncols w.now in
         let y = along (forward_column a) l x.old in
         (xi.new ≡ onto xi.old l) × (xv.new ≡ onto xv.old (map (λ j. get_or y j nan) l)) }
 {
     let mut at = 0;
-    for j in 0..a.pattern.ncols {
+    for j in 0..a.matrix.pattern.ncols {
         if w[j] != 0 {
-            let (rows, vals) = column(a, j);
-            let d = value_at(j, rows, vals);
-            forward_at(j, d, rows, vals, x);
+            let col = column(a, j);
+            let d = value_at(j, col.rows, col.vals);
+            forward_at(j, d, col.rows, col.vals, x);
             at = push(j, x[j], at, xi, xv);
         }
     }

@@ -15,10 +15,11 @@ use Rattle.lists.proofs.Calls.{first, then, below_7, left_alone, left-written}
 use Rattle.lists.proofs.Tables.{length-table}
 use Rattle.cs_matrix.specs.Matrix.{Matrix, Stored, stored, column, short, written, Valid}
 use Rattle.cs_matrix.proofs.Pointers.{between, length-column, last-at}
-use Rattle.cs_columns.specs.Columns.{IsColumn, joined, with_columns, with_entries, either, laid, judged_two, short_for}
+use Rattle.cs_matrix.specs.Columns.{IsColumn}
+use Rattle.cs_columns.specs.Columns.{joined, with_columns, with_entries, either, laid, judged_two, short_for}
 use Rattle.cs_columns.proofs.Filling.{Filling, filling_start, filling_turn, filling_end, filling_at, filling_i, filling_v, room_i, room_v, room_p}
 use Rattle.cs_columns.proofs.Filling.{room-all}
-use Rattle.cs_columns.proofs.Handing.{column-alike, column-below, column-up}
+use Rattle.cs_matrix.proofs.Handing.{column-alike, column-below, column-up}
 use Rattle.cs_columns.proofs.Joining.{joined-none, length_more, joined-steps, joined_alike, entries-within, entries_valid}
 use Rattle.cs_columns.proofs.Judging.{alone_7, early_two, Passed, passed, Roomy, roomy, short_fewer, short_for_lem}
 use Rattle.cs_columns.proofs.Merging.{either-most, either-fewer}

@@ -2,6 +2,5 @@
 #![tactic(auto)]
 
 mod alike;
-mod column;
 mod merge;
 pub mod sum;

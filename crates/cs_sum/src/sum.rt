@@ -9,10 +9,11 @@ ghost use Rattle.cs_columns.specs.Columns.{joined, short_for};
 ghost use Rattle.cs_sum.specs.Steps.{Alike, Ready};
 ghost use Rattle.cs_sum.specs.Sum.{row_of, sum as sum_of, differ as differOf, number};
 
-use crate::column::column;
 use crate::merge::{count_rows, merge};
 use cs_columns::judge::{check_two, no_room};
+use cs_matrix::columns::column;
 use cs_matrix::matrix::{Matrix, Pattern};
+use cs_matrix::valid::ValidMatrix;
 use lists::refusal::Refusal;
 
 // The dimensions of the two differ.
@@ -24,38 +25,38 @@ fn differ(a: Pattern<'_>, b: Pattern<'_>) -> bool
 }
 
 // The number of different places.
-fn count(a: Matrix<'_>, b: Matrix<'_>) -> usize
-    requires { Alike (matrix_of a) (matrix_of b) }
-    ensures { let a = matrix_of a.entry in
-        let b = matrix_of b.entry in
+fn count(a: ValidMatrix<'_>, b: ValidMatrix<'_>) -> usize
+    requires { Alike (matrix_of a.matrix) (matrix_of b.matrix) }
+    ensures { let a = matrix_of a.entry.matrix in
+        let b = matrix_of b.entry.matrix in
         result ≡ length (joined (λ j. chosen a.pattern.nrows (row_of a b j)) a.pattern.ncols) }
 {
-    let ncols = a.pattern.ncols;
+    let ncols = a.matrix.pattern.ncols;
     let mut places = 0;
     for j in 0..ncols {
-        let (ai, _) = column(a, j);
-        let (bi, _) = column(b, j);
-        places += count_rows(ai, bi);
+        let one = column(a, j);
+        let two = column(b, j);
+        places += count_rows(one.rows, two.rows);
     }
     places
 }
 
 // Number 7, by the lengths of the outputs. Room for the entries of both is room for the different places, which are then not counted.
 fn check_room(
-    a: Matrix<'_>,
-    b: Matrix<'_>,
+    a: ValidMatrix<'_>,
+    b: ValidMatrix<'_>,
     plen: usize,
     ilen: usize,
     vlen: usize,
 ) -> Result<(), Refusal>
-    requires { Alike (matrix_of a) (matrix_of b) }
-    ensures { let a = matrix_of a.entry in
-        let b = matrix_of b.entry in
+    requires { Alike (matrix_of a.matrix) (matrix_of b.matrix) }
+    ensures { let a = matrix_of a.entry.matrix in
+        let b = matrix_of b.entry.matrix in
         let places = length (joined (λ j. chosen a.pattern.nrows (row_of a b j)) a.pattern.ncols) in
         numbered result ≡ lowest ((7, short_for a.pattern.ncols places plen ilen vlen) ∷ []) }
 {
-    let ncols = a.pattern.ncols;
-    let both = a.pattern.i.len() + b.pattern.i.len();
+    let ncols = a.matrix.pattern.ncols;
+    let both = a.matrix.pattern.i.len() + b.matrix.pattern.i.len();
     if !no_room(ncols, both, plen, ilen, vlen) {
         return Ok(());
     }
@@ -66,18 +67,18 @@ fn check_room(
 }
 
 // The sum, into outputs that have room.
-fn fill(a: Matrix<'_>, b: Matrix<'_>, op: &mut [u32], oi: &mut [u32], ov: &mut [f64])
-    requires { Ready (matrix_of a) (matrix_of b) (stored op.old oi.old ov.old) }
+fn fill(a: ValidMatrix<'_>, b: ValidMatrix<'_>, op: &mut [u32], oi: &mut [u32], ov: &mut [f64])
+    requires { Ready (matrix_of a.matrix) (matrix_of b.matrix) (stored op.old oi.old ov.old) }
     ensures { stored op.new oi.new ov.new
-        ≡ written (sum_of (matrix_of a.entry) (matrix_of b.entry)) (stored op.old oi.old ov.old) }
+        ≡ written (sum_of (matrix_of a.entry.matrix) (matrix_of b.entry.matrix)) (stored op.old oi.old ov.old) }
 {
-    let ncols = a.pattern.ncols;
+    let ncols = a.matrix.pattern.ncols;
     let mut at = 0;
     for j in 0..ncols {
         op[j] = at as u32;
-        let (ai, av) = column(a, j);
-        let (bi, bv) = column(b, j);
-        at = merge(at, ai, av, bi, bv, oi, ov);
+        let one = column(a, j);
+        let two = column(b, j);
+        at = merge(at, one.rows, one.vals, two.rows, two.vals, oi, ov);
     }
     op[ncols] = at as u32;
 }
@@ -98,6 +99,8 @@ pub fn sum(
         (numbered result ≡ 0 → Valid (sum_of a b)) }
 {
     check_two(a, b, differ(a.pattern, b.pattern))?;
+    let a = ValidMatrix { matrix: a };
+    let b = ValidMatrix { matrix: b };
     check_room(a, b, op.len(), oi.len(), ov.len())?;
     fill(a, b, op, oi, ov);
     Ok(())

@@ -5,17 +5,11 @@ use lib.Ieee.{nan}
 use Rattle.cs_product.proofs.Adding.{up_asks, up_turn, up_done, col_below}
 use Rattle.cs_product.proofs.plain.accumulate_plain.Goals as goal
 
-pub column-requires : goal.column-requires
-column-requires c =
-    let t = zip_turn c.args.rows.now c.args.vals.now _ _ _ c.next.new.self _
-    (search rules) (search rules) c.loop-col.yielded_by _ c.in-Some.is c.next.ensures.steps in
-    (c.loop-col.invariant.ask.valid, col_below _ _ _ c.loop-col.invariant t.0 (c.wide-c.ensures.0 ∙ t.2 0))
-
 pub add_plain-requires : goal.add_plain-requires
 add_plain-requires c =
     let t = zip_turn c.args.rows.now c.args.vals.now _ _ _ c.next.new.self _
     (search rules) (search rules) c.loop-col.yielded_by _ c.in-Some.is c.next.ensures.steps in
-    up_asks _ _ _ c.loop-col.invariant t.0 (c.wide-c.ensures.0 ∙ t.2 0) c.column.ensures
+    up_asks _ _ _ c.loop-col.invariant t.0 (c.wide-c.ensures.0 ∙ t.2 0) c.column-part.ensures
 
 pub loop-col-preserved : goal.loop-col-preserved
 loop-col-preserved c =
@@ -23,7 +17,7 @@ loop-col-preserved c =
     (search rules) (search rules) c.loop-col.yielded_by _ c.in-Some.is c.next.ensures.steps in
     let e = c.add_plain.ensures in
     rw length-append (up_turn _ _ _ c.loop-col.invariant t.0 (c.wide-c.ensures.0 ∙ t.2 0)
-    c.column.ensures (rw (t.3 nan) at e) c.add_plain.auto.x)
+    c.column-part.ensures (rw (t.3 nan) at e) c.add_plain.auto.x)
 
 pub returns : goal.returns
 returns c =

@@ -5,4 +5,4 @@ use Rattle.cs_product.proofs.Adding.{Adding-up}
 use Rattle.cs_product.proofs.plain.accumulate_plain.Given as goal
 
 abbrev pub invariant-loop-col : goal.invariant-loop-col
-invariant-loop-col l = Adding-up (matrix_of l.a) l.rows l.vals l.initial.x l.x (length l.yielded)
+invariant-loop-col l = Adding-up (matrix_of l.a.matrix) l.rows l.vals l.initial.x l.x (length l.yielded)

@@ -7,17 +7,14 @@ use Rattle.cs_product.proofs.product.fill.Goals as goal
 pub loop-j-init : goal.loop-j-init
 loop-j-init c = writing_start _ _ c.requires
 
-pub column-requires : goal.column-requires
-column-requires c = (c.loop-j.invariant.begun.factors.second, c.loop-j-test.true)
-
 pub overflow_cast-op : goal.overflow_cast-op
 overflow_cast-op c = omega (arith, writing_small _ _ c.loop-j.invariant)
 
 pub write_column-at-requires : goal.write_column-at-requires
-write_column-at-requires c = writing_asks _ _ c.loop-j.invariant c.loop-j-test.true c.column.ensures
+write_column-at-requires c = writing_asks _ _ c.loop-j.invariant c.loop-j-test.true c.column-col.ensures
 
 pub loop-j-preserved : goal.loop-j-preserved
-loop-j-preserved c = writing_turn _ _ c.loop-j.invariant c.loop-j-test.true c.column.ensures
+loop-j-preserved c = writing_turn _ _ c.loop-j.invariant c.loop-j-test.true c.column-col.ensures
     c.write_column-at.auto.spare c.write_column-at.ensures.0 c.write_column-at.ensures.1 c.write_column-at.ensures.2 c.write_column-at.ensures.3
 
 pub returns : goal.returns

@@ -3,6 +3,7 @@ use Rattle.std.proofs.Common.{refl, arith, []}
 use Rattle.lists.specs.Calls.{lent, scratch}
 use Rattle.lists.proofs.Refusals.{passed-number, passed-some}
 use Rattle.cs_matrix.specs.Matrix.{stored}
+use Rattle.cs_columns.proofs.Judging.{passed}
 use Rattle.cs_product.proofs.Produced.{at_check, m_small, at_6, in_w1, in_w2, in_w3, in_x, clean, at_served}
 use Rattle.cs_product.proofs.product.product.Goals as goal
 
@@ -33,6 +34,12 @@ slice_bounds-serve-end-3 c = in_w3 _ _ (lent (stored [] [] []) _) c.in_ok-check_
 pub slice_bounds-serve-end-4 : goal.slice_bounds-serve-end-4
 slice_bounds-serve-end-4 c = in_x _ _ (lent (stored [] [] []) _) c.in_ok-check_two.ensures refl c.max.ensures c.max-2.ensures c.max-need.ensures
     c.too_narrow.ensures c.if-too_narrow.false c.clear_scratch.ensures
+
+pub invariant_of-serve : goal.invariant_of-serve
+invariant_of-serve c = record { valid = (passed _ _ _ c.in_ok-check_two.ensures refl).first }
+
+pub invariant_of-serve-2 : goal.invariant_of-serve-2
+invariant_of-serve-2 c = record { valid = (passed _ _ _ c.in_ok-check_two.ensures refl).second }
 
 pub serve-answer-requires : goal.serve-answer-requires
 serve-answer-requires c = clean _ _ (lent (stored [] [] []) _) c.in_ok-check_two.ensures refl c.max.ensures c.max-2.ensures c.max-need.ensures

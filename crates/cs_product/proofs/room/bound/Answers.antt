@@ -5,14 +5,11 @@ use Rattle.cs_product.proofs.room.bound.Goals as goal
 pub loop-j-init : goal.loop-j-init
 loop-j-init c = bounding_start _ _ c.requires
 
-pub column-requires : goal.column-requires
-column-requires c = (c.loop-j.invariant.ask.second, c.loop-j-test.true)
-
 pub span_of-span-requires : goal.span_of-span-requires
-span_of-span-requires c = bounding_asks _ _ c.loop-j.invariant c.loop-j-test.true c.column.ensures
+span_of-span-requires c = bounding_asks _ _ c.loop-j.invariant c.loop-j-test.true c.column-col.ensures
 
 pub loop-j-preserved : goal.loop-j-preserved
-loop-j-preserved c = bounding_turn _ _ c.loop-j.invariant c.loop-j-test.true c.column.ensures c.span_of-span.ensures
+loop-j-preserved c = bounding_turn _ _ c.loop-j.invariant c.loop-j-test.true c.column-col.ensures c.span_of-span.ensures
     c.min-most.ensures
 
 pub returns : goal.returns

@@ -4,4 +4,4 @@ use Rattle.cs_product.proofs.Produced.{Tallying}
 use Rattle.cs_product.proofs.room.count.Given as goal
 
 abbrev pub invariant-loop-j : goal.invariant-loop-j
-invariant-loop-j l = Tallying (matrix_of l.a) (matrix_of l.b) l.mark l.met l.x l.entries l.j
+invariant-loop-j l = Tallying (matrix_of l.a.matrix) (matrix_of l.b.matrix) l.mark l.met l.x l.entries l.j

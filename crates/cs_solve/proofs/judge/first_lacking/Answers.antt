@@ -11,5 +11,5 @@ use Rattle.cs_solve.proofs.judge.first_lacking.Goals as goal
 
 pub returns : goal.returns
 unfolding lacking_columns
-returns c = first_found _ _ _ (find_from_yields_List (lacking (matrix_of c.args.a)) _ _ c.find.result c.find.ensures.ran
-    (YieldsList-from_range 0 c.args.a.pattern.ncols c.args.a.pattern.ncols (search rules) (omega arith)) (λ x b q k. search (rules, tests)))
+returns c = first_found _ _ _ (find_from_yields_List (lacking (matrix_of c.args.a.matrix)) _ _ c.find.result c.find.ensures.ran
+    (YieldsList-from_range 0 c.args.a.matrix.pattern.ncols c.args.a.matrix.pattern.ncols (search rules) (omega arith)) (λ x b q k. search (rules, tests)))

@@ -10,5 +10,5 @@ use Rattle.cs_solve.proofs.judge.last_lacking.Goals as goal
 
 pub returns : goal.returns
 unfolding lacking_columns
-returns c = last_found _ _ _ (find_from_yields_List (lacking (matrix_of c.args.a)) _ _ c.find.result c.find.ensures.ran
-    (downward c.args.a.pattern.ncols c.rev.ensures.source) (λ x b q k. search (rules, tests)))
+returns c = last_found _ _ _ (find_from_yields_List (lacking (matrix_of c.args.a.matrix)) _ _ c.find.result c.find.ensures.ran
+    (downward c.args.a.matrix.pattern.ncols c.rev.ensures.source) (λ x b q k. search (rules, tests)))

@@ -5,14 +5,11 @@ use Rattle.cs_solve.proofs.solve.forward.Goals as goal
 pub loop-j-init : goal.loop-j-init
 loop-j-init c = forwarding_start c.requires
 
-pub column-requires : goal.column-requires
-column-requires c = (c.requires.valid, c.loop-j-test.true)
-
 pub forward_column-requires : goal.forward_column-requires
-forward_column-requires c = forwarding_asked c.loop-j.invariant c.loop-j-test.true c.column.ensures
+forward_column-requires c = forwarding_asked c.loop-j.invariant c.loop-j-test.true c.column-col.ensures
 
 pub loop-j-preserved : goal.loop-j-preserved
-loop-j-preserved c = forwarding_turn c.loop-j.invariant c.loop-j-test.true c.column.ensures c.value_at-d.ensures c.forward_column.ensures
+loop-j-preserved c = forwarding_turn c.loop-j.invariant c.loop-j-test.true c.column-col.ensures c.value_at-d.ensures c.forward_column.ensures
 
 pub returns : goal.returns
 returns c = forwarding_end c.loop-j.invariant c.loop-j-test.false

@@ -4,4 +4,4 @@ use Rattle.cs_solve.proofs.Turns.{Forwarding}
 use Rattle.cs_solve.proofs.solve.forward.Given as goal
 
 abbrev pub invariant-loop-j : goal.invariant-loop-j
-invariant-loop-j l = Forwarding (matrix_of l.a) l.initial.b l.b l.j
+invariant-loop-j l = Forwarding (matrix_of l.a.matrix) l.initial.b l.b l.j

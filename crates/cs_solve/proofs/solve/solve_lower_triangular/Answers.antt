@@ -7,8 +7,8 @@ use Rattle.cs_solve.proofs.solve.solve_lower_triangular.Goals as goal
 pub returns-in-Err : goal.returns-in-Err
 returns-in-Err c = rw c.refused.ensures (at_check _ _ _ _ c.in-Err.ensures (refusal-some _))
 
-pub first_lacking-requires : goal.first_lacking-requires
-first_lacking-requires c = (passed _ _ c.in_default.ensures refl).valid
+pub invariant_of-valid : goal.invariant_of-valid
+invariant_of-valid c = record { valid = (passed _ _ c.in_default.ensures refl).valid }
 
 pub overflow_cast-column : goal.overflow_cast-column
 overflow_cast-column c = omega (arith, c.in-Some.ensures.2, (passed _ _ c.in_default.ensures refl).valid.pattern.cols)

@@ -4,4 +4,4 @@ use Rattle.cs_solve.proofs.Turns.{Transposing}
 use Rattle.cs_solve.proofs.tr_solve.transposed.Given as goal
 
 abbrev pub invariant-loop-j : goal.invariant-loop-j
-invariant-loop-j l = Transposing (matrix_of l.a) l.initial.b l.b l.j
+invariant-loop-j l = Transposing (matrix_of l.a.matrix) l.initial.b l.b l.j

@@ -15,6 +15,9 @@ pub returns-then-too_narrow : goal.returns-then-too_narrow
 returns-then-too_narrow c = rw c.refused-then-too_narrow.ensures
     (at_6 _ _ _ _ _ _ _ _ c.in_default.ensures refl c.too_narrow.ensures c.if-too_narrow.true)
 
+pub invariant_of-valid : goal.invariant_of-valid
+invariant_of-valid c = record { valid = (passed _ _ c.in_default.ensures refl).valid }
+
 pub slice_bounds-serve-end : goal.slice_bounds-serve-end
 slice_bounds-serve-end c = let h = w1_long _ _ c.too_narrow.ensures c.if-too_narrow.false c.clear_scratch.ensures in omega arith
 

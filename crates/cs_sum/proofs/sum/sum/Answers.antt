@@ -9,6 +9,12 @@ pub returns-in_err-check_two : goal.returns-in_err-check_two
 returns-in_err-check_two c = at_check _ _ _ c.differ.ensures (passed-number _ _ c.from_residual.ensures.1 c.in_err-check_two.ensures)
     (passed-some _ _ c.from_residual.ensures.1)
 
+pub invariant_of-a : goal.invariant_of-a
+invariant_of-a c = record { valid = (alike _ _ (stored [] [] []) c.differ.ensures c.in_ok-check_two.ensures refl).first }
+
+pub invariant_of-b : goal.invariant_of-b
+invariant_of-b c = record { valid = (alike _ _ (stored [] [] []) c.differ.ensures c.in_ok-check_two.ensures refl).second }
+
 pub check_room-requires : goal.check_room-requires
 check_room-requires c = alike _ _ (stored [] [] []) c.differ.ensures c.in_ok-check_two.ensures refl
 
