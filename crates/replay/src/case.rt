@@ -1,4 +1,6 @@
 // A case on standard input and output: numbers and elements one after the other, the lowest byte first.
+ghost use Rattle.std.specs.Prelude.{◌≤◌};
+
 use arrayvec::ArrayVec;
 use float_bits::{bits_of, of_bits};
 use little::{put, u32_at, u64_at};
@@ -40,7 +42,11 @@ impl Element for f64 {
 }
 
 // No slice of a case is longer. Each lies in memory of this size, as there is no heap.
-const MOST: u32 = 4096;
+fn capped(length: u32) -> usize
+    ensures { result ≤ 4096 }
+{
+    length.min(4096) as usize
+}
 
 // Where the input ends, the missing bytes are 0. A slice's bytes are read at once.
 fn read_slice<T: Element, R: Read>(
@@ -49,7 +55,7 @@ fn read_slice<T: Element, R: Read>(
     bytes: &mut [u8],
     slice: &mut ArrayVec<T, 4096>,
 ) -> io::Result<()> {
-    let n = length.min(MOST) as usize;
+    let n = capped(length);
     let end = n.saturating_mul(T::SIZE).min(bytes.len());
     let (got, ended) = fill(input, &mut bytes[..end]);
     ended?;
