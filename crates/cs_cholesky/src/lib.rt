@@ -31,11 +31,7 @@ impl Factored {
     pub fn refused(refusal: Refusal) -> Factored
         ensures { result ≡ factored (number_of refusal) 0 none }
     {
-        Factored {
-            number: refusal.number(),
-            column: 0,
-            pivot: 0.0,
-        }
+        judge::refused(refusal.number())
     }
 
     // The answer that names a column whose pivot is not above zero, or is NaN.

@@ -25,11 +25,13 @@ fn pointers_hold(p: &[u32], n: usize) -> bool
     if wide(p[last]) != n {
         return false;
     }
-    let mut climbs = true;
+    let mut falls: u32 = 0;
     for k in 0..last {
-        climbs &= p[k] <= p[k + 1];
+        if p[k + 1] < p[k] {
+            falls = 1;
+        }
     }
-    climbs
+    falls == 0
 }
 
 // How many rows are not above the one before.

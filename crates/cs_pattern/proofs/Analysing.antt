@@ -205,13 +205,13 @@ module _ {nrows n : ℕ} {p i w1 w2 w3 : List ℕ} {x : List Float} {old : Scrat
       (ap (cleared none (n + 1)) x_is ∙ cleared-again none (n + 1) old.x)
 
   module _ {o : Option ℕ} {w1' w2' w3' : List ℕ} (B : Outlined D n o w1 w1' w2 w2' w3 w3') where
-    kept1 : Kept 0 (n + 1) w1 w1'
+    pub kept1 : Kept 0 (n + 1) w1 w1'
     kept1 = rw B.tree_is (kept-onto (n + 1) w1 (tree D) (omega (arith, tree-size square_valid)) (omega (arith, tree-size square_valid, long1)))
 
-    kept2' : Kept 0 (n + 1) w2 w2'
+    pub kept2' : Kept 0 (n + 1) w2 w2'
     kept2' = kept-wider (n + 1) (omega arith) B.kept2
 
-    kept3' : Kept 0 (n + 1) w3 w3'
+    pub kept3' : Kept 0 (n + 1) w3 w3'
     kept3' = kept-wider (n + 1) (omega arith) B.kept3
 
     module _ (out : Analysis) where
@@ -245,7 +245,7 @@ module _ {nrows n : ℕ} {p i w1 w2 w3 : List ℕ} {x : List Float} {old : Scrat
           number_is a (lent out old) ∙ sym (then (judged6 a old) ((7, short (analysed (columns a)) out) ∷ []) (early_6 a old) P.none refl) ∙
           ap (λ (c : Bool). cond c 7 0) (sym e)
 
-      at_7 : true ≡ short (analysed D) out → {s : Scratch} → s ≡ wiped (n + 1) (scratch w1' w2' w3' x) → Answers 7 out s
+      pub at_7 : true ≡ short (analysed D) out → {s : Scratch} → s ≡ wiped (n + 1) (scratch w1' w2' w3' x) → Answers 7 out s
       at_7 e f = (
         sym (answer e),
         late 7 (needed a) _ (lent out old) (omega arith) (omega arith) (cleared-up kept1 kept2' kept3' f ∙ ap (λ (k : ℕ). wiped k old) (sym P.need)),

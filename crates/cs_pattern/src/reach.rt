@@ -38,7 +38,12 @@ fn shift(len: usize, top: usize, out: &mut [u32]) -> usize
     ensures { (result + len ≡ top) × (drop result out.new ≡ take len out.old ++ drop top out.old) }
 {
     let low = top - len;
-    out.copy_within(..len, low);
+    if low == 0 {
+        return low;
+    }
+    for t in (0..len).rev() {
+        out[low + t] = out[t];
+    }
     low
 }
 

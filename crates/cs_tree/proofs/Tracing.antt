@@ -1,17 +1,18 @@
--- The loops that write a column of U: the walk from one row, which lists as it goes, and row by row, with each way moved up to where
--- it belongs. Assumes nothing.
+-- The loops that write a column of U: the walk from one row, which lists as it goes; the way moved up to where it belongs; and row
+-- by row. Assumes nothing.
 use mathlib.Core.Path.{◌≡◌, refl, sym, ap, ◌∙◌}
 use mathlib.Core.Bool.{true, false}
 use mathlib.Core.List.{List, [], ◌∷◌, ◌++◌, append-nil, append_assoc}
 use Prim.Native.Nat.{ℕ, zero, suc, ◌+◌, ◌-◌, ◌≤◌, ◌<◌}
 use native.Mathlib.Omega.{arith}
-use lib.ListN.{length, get_or, set, take, drop, length-set, length-append}
-use lib.Seq.{drop_at, length-take-le, take-append-le}
+use lib.ListN.{length, get_or, set, take, drop, length-set, length-append, take-append-drop}
+use lib.Seq.{get_or-set_same, get_or-set_other, drop-set-lt, drop_at, length-take-le, take-append-le}
 use borrow.Author.Tests.{ne_eqb}
 use Rattle.lists.specs.Order.{lists, rises}
 use Rattle.lists.specs.Parts.{part, placed}
+use Rattle.lists.proofs.Laying.{part-front}
 use Rattle.lists.proofs.Members.{get_d_any}
-use Rattle.lists.proofs.Parts.{written-more, length_part, length-placed}
+use Rattle.lists.proofs.Parts.{left_at, written-more, length_part, length-placed}
 use Rattle.cs_tree.specs.Tree.{root}
 use Rattle.cs_tree.specs.Pattern.{path, paths}
 use Rattle.cs_tree.specs.Steps.{Marks, Walks, Walked, way, Roomy, Traced}
@@ -58,6 +59,12 @@ module _ {s k : ℕ} {par : List ℕ} {row : ℕ} {mark₀ mark out₀ out : Lis
       record { walked = w; listed = sym (t.goes ∙ ap (λ (l : List ℕ). take len out ++ l) (nothing rest z) ∙ append-nil (take len out)) }
 
   module _ {i : ℕ} (h : c ≤ k) (f : i ≡ c) where
+    pub trace_in_par : i < length par
+    trace_in_par = omega (arith, v.walk.asks.p_long)
+
+    pub trace_in_mark : i < length mark
+    trace_in_mark = omega (arith, v.walk.asks.m_long)
+
     pub trace_up : c < get_or par i 0
     trace_up = rw f (walk_up v.walk h)
 
@@ -117,6 +124,63 @@ module _ {s k : ℕ} {par : List ℕ} {row : ℕ} {mark₀ mark out₀ out : Lis
 
   pub trace_over : k < c → (o : Roomy s k par row mark₀ out₀) → Traced s k par row o.older len mark out
   trace_over h o = told o ((walk_over v.walk h).1 o.older o.marks)
+
+-- ---- `shift`: from t on the elements are moved
+pub record Shifting (len top low : ℕ) (out₀ out : List ℕ) (t : ℕ) : Type 0 where
+  pub long : length out ≡ length out₀
+  pub ends : low + len ≡ top
+  pub inside : top ≤ length out₀
+  pub within : t ≤ len
+  pub front : (q : ℕ) → q < t → get_or out q 0 ≡ get_or out₀ q 0
+  pub back : drop (low + t) out ≡ part t len out₀ ++ drop top out₀
+
+pub shifting_start : {len top low : ℕ} {out : List ℕ} → low ≡ top - len → len ≤ top → top ≤ length out → Shifting len top low out out len
+shifting_start {len = len} {top = top} {low = low} e h g =
+    let z : len - len ≡ 0 = omega arith in
+    let n : low + len ≡ top = omega arith in
+    record { long = refl; ends = n; inside = g; within = omega arith; front = λ q l. refl; back = rw (z, n) }
+
+module _ {len top low : ℕ} {out₀ out : List ℕ} {t : ℕ} (v : Shifting len top low out₀ out t) where
+  module _ (h : 0 < t) where
+    pub shift_from : t - 1 < length out
+    shift_from = omega (arith, v.long, v.inside, v.within, v.ends)
+
+    pub shift_to : low + (t - 1) < length out
+    shift_to = omega (arith, v.long, v.inside, v.within, v.ends)
+
+    pub shifting_turn : Shifting len top low out₀ (set out (low + (t - 1)) (get_or out (t - 1) 0)) (t - 1)
+    shifting_turn =
+        let j = low + (t - 1) in
+        let x = get_or out (t - 1) 0 in
+        let f : x ≡ get_or out₀ (t - 1) 0 = v.front (t - 1) (omega arith) in
+        let n : j + 1 ≡ low + t = omega arith in
+        let m : t - 1 + 1 ≡ t = omega arith in
+        let a : drop j (set out j x) ≡ x ∷ drop (low + t) out =
+        left_at (set out j x) j 0 (omega (arith, length-set out j x, shift_to))
+        ∙ (rw (get_or-set_same out j x 0 shift_to, n, drop-set-lt (low + t) out j x (omega arith))) in
+        let b : part (t - 1) len out₀ ≡ get_or out₀ (t - 1) 0 ∷ part t len out₀ =
+        let k : len - (t - 1) ≡ suc (len - t) = omega (arith, v.within) in
+        rw (k, left_at out₀ (t - 1) 0 (omega (arith, shift_from, v.long)), m) in
+        record {
+          long = length-set out j x ∙ v.long;
+          ends = v.ends;
+          inside = v.inside;
+          within = omega (arith, v.within);
+          front = λ q l. get_or-set_other out j q x 0 (λ e. omega arith) ∙ v.front q (omega arith);
+          back = a ∙ ap (λ (l : List ℕ). x ∷ l) v.back ∙ (rw (f, b));
+        }
+
+  pub shifting_done : t ≡ 0 → drop low out ≡ take len out₀ ++ drop top out₀
+  shifting_done e =
+      let z : low + 0 ≡ low = omega arith in
+      (rw (e, z, part-front len out₀) at v.back)
+
+-- where they end there already nothing moves
+pub shift_none : {len top low : ℕ} (out : List ℕ) → low ≡ top - len → len ≤ top → low ≡ 0 → (low + len ≡ top) ×
+    (drop low out ≡ take len out ++ drop top out)
+shift_none {len = len} {top = top} {low = low} out e h z =
+    let n : len ≡ top = omega arith in
+    (omega arith, rw (z, n) (sym (take-append-drop top out)))
 
 -- ---- `lay`, row by row: what is listed ends where the column is to end, and behind that nothing changes
 pub record Reaching (s k : ℕ) (par rows mark₀ mark out₀ out : List ℕ) (end top q : ℕ) : Type 0 where

@@ -57,7 +57,7 @@ module _ {n : ℕ} {p i : List ℕ} {v : List Float} {tr up ui lp li : List ℕ}
       Filled s lx2 = (s ≡ f.answer) × (lx2 ≡ written size f lx) × (cleared 0 (n + 1) (placed 0 n next next1) ≡ cleared 0 (n + 1) next) ×
           (cleared none (n + 1) (placed 0 n x x1) ≡ cleared none (n + 1) x)
 
-      filled : {s : Factored} {lx2 : List Float} → s ≡ f.answer → lx2 ≡ written size f lx → Filled s lx2
+      pub filled : {s : Factored} {lx2 : List Float} → s ≡ f.answer → lx2 ≡ written size f lx → Filled s lx2
       filled e b = (
         e,
         b,

@@ -67,7 +67,7 @@ module _ {n k : ℕ} {p i : List ℕ} {v : List Float} {tr up ui lp li : List �
   ls = lower C
 
   -- ---- the stored column
-  stored : Between p (length i) k (get_or p k 0) (get_or p (k + 1) 0)
+  pub stored : Between p (length i) k (get_or p k 0) (get_or p (k + 1) 0)
   stored = between S.valid.pattern.ptrs S.valid.pattern.p_long here refl refl
 
   in_v : get_or p (k + 1) 0 ≤ length v

@@ -142,15 +142,15 @@ module _ (s : List ℕ) (was : Arrays) (a : Sound) (now : Arrays) (c : (said (Ok
     count_is : w ≡ length j.entries.rows
     count_is = e ∙ ap (λ (x : Said). x.head.entries) c.0
 
-    rows_are : (w ≤ length now.rows) × (take w now.rows ≡ (read_file s).job.entries.rows)
+    pub rows_are : (w ≤ length now.rows) × (take w now.rows ≡ (read_file s).job.entries.rows)
     unfolding laid
     rows_are = front_fits was.rows j.entries.rows now.rows w (ap (λ (x : Arrays). x.rows) c.1) count_is
 
-    columns_are : (w ≤ length now.columns) × (take w now.columns ≡ (read_file s).job.entries.columns)
+    pub columns_are : (w ≤ length now.columns) × (take w now.columns ≡ (read_file s).job.entries.columns)
     unfolding laid
     columns_are = front_fits was.columns j.entries.columns now.columns w (ap (λ (x : Arrays). x.columns) c.1) (count_is ∙ sym c.2.columns)
 
-    values_are : (w ≤ length now.values) × (take w now.values ≡ (read_file s).job.entries.values)
+    pub values_are : (w ≤ length now.values) × (take w now.values ≡ (read_file s).job.entries.values)
     unfolding laid
     values_are = front_fits was.values j.entries.values now.values w (ap (λ (x : Arrays). x.values) c.1) (count_is ∙ sym c.2.values)
 
@@ -158,7 +158,7 @@ module _ (s : List ℕ) (was : Arrays) (a : Sound) (now : Arrays) (c : (said (Ok
     n_is : n ≡ j.n
     n_is = e ∙ ap (λ (x : Said). x.head.n) c.0
 
-    right_is : (n ≤ length now.right) × (take n now.right ≡ (read_file s).job.right)
+    pub right_is : (n ≤ length now.right) × (take n now.right ≡ (read_file s).job.right)
     unfolding laid
     right_is = front_fits was.right j.right now.right n (ap (λ (x : Arrays). x.right) c.1) (n_is ∙ sym c.2.right)
 

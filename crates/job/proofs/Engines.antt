@@ -22,7 +22,7 @@ use Rattle.job_prepare.specs.Prepare.{scratch_room}
 use Rattle.job.specs.Run.{factoring, factor_number}
 
 -- what a call leaves in its outputs, its scratch aside
-out_of : {Out : Type 0} (r n : ℕ) (w out : Out) (work : Scratch) {new : Out} {work1 : Scratch} → lent new work1 ≡ leaves r n w (lent out work) →
+pub out_of : {Out : Type 0} (r n : ℕ) (w out : Out) (work : Scratch) {new : Out} {work1 : Scratch} → lent new work1 ≡ leaves r n w (lent out work) →
     new ≡ outputs r w out
 unfolding leaves
 out_of r n w out work e = ap (λ (l : Lent _). l.out) e

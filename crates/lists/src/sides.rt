@@ -1,4 +1,5 @@
-// Two slices side by side, the first element with the first, as far as both go, so that several are done at a time.
+// Two slices side by side, the first element with the first, as far as both go, so that several are done at a time. By loops: a copy of std's
+// would make the archive for C need memmove.
 ghost use Rattle.std.specs.Prelude.{◌≡◌};
 ghost use Rattle.std.specs.Float.{binary64};
 ghost use Rattle.std.specs.Float.Ieee.{add, mul};
@@ -9,7 +10,9 @@ pub fn copy<T: Copy>(from: &[T], out: &mut [T])
     ensures { out.new ≡ zipped (λ _ v. v) out.old from.now }
 {
     let n = from.len().min(out.len());
-    out[..n].copy_from_slice(&from[..n]);
+    for k in 0..n {
+        out[k] = from[k];
+    }
 }
 
 // To each element its value times f is added. The solves and the up factoring subtract, in loops of their own: of a step that is handed in,

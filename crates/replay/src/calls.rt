@@ -1,5 +1,5 @@
 // The calls by their numbers, each on the slices of a case.
-use crate::case::{Case, Element, Head};
+use crate::case::{Case, Head};
 use cs_cholesky::Factored;
 use cs_conversion::assembly::{Triplets, from_triplet};
 use cs_left::left::decompose_left_looking;
@@ -197,27 +197,25 @@ fn analysed(h: &Head, case: &mut Case) -> Answer {
 }
 
 // One case: its call is made, and the answer and the slices are written; whether there was one.
-fn turn<R: Read>(rt: &(impl Print + AllocGlobal), input: &mut R) -> io::Result<bool> {
+fn turn<R: Read>(rt: &impl Print, input: &mut R, case: &mut Case) -> io::Result<bool> {
     let Some(head) = Head::read(input)? else {
         return Ok(false);
     };
-    let mut case = Case::read(rt, input, &head)?;
+    case.read(input, &head)?;
     let answer = match head.call {
-        0..=9 => plain(&head, &mut case),
-        10..=15 => built(&head, &mut case),
-        _ => analysed(&head, &mut case),
+        0..=9 => plain(&head, case),
+        10..=15 => built(&head, case),
+        _ => analysed(&head, case),
     };
-    answer.number.write(rt)?;
-    answer.column.write(rt)?;
-    answer.pivot.write(rt)?;
-    case.write(rt)?;
+    case.write(rt, answer.number, answer.column, answer.pivot)?;
     Ok(true)
 }
 
 // A proved loop has to end, and nothing says that the input does: the turns are counted, up to a number that no run reaches.
-pub fn replay<R: Read>(rt: &(impl Print + AllocGlobal), input: &mut R) -> io::Result<()> {
+pub fn replay<R: Read>(rt: &impl Print, input: &mut R) -> io::Result<()> {
+    let mut case = Case::new();
     for _ in 0..u64::MAX {
-        if !turn(rt, input)? {
+        if !turn(rt, input, &mut case)? {
             break;
         }
     }

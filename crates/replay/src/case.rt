@@ -1,65 +1,84 @@
 // A case on standard input and output: numbers and elements one after the other, the lowest byte first.
+ghost use Rattle.std.specs.Prelude.{◌≤◌};
+
+use arrayvec::ArrayVec;
 use float_bits::{bits_of, of_bits};
 use little::{put, u32_at, u64_at};
 use reading::fill;
 use std::io;
 use std::io::Read;
 
-// A number or an element. Where the input ends, its missing bytes are 0.
-pub trait Element: Copy + Drop {
-    fn read<R: Read>(input: &mut R) -> io::Result<Self>;
+// What a slice holds, at a place of its bytes: past their end they are 0 and are not written.
+pub trait Element: Copy + Default + Drop {
+    const SIZE: usize;
 
-    fn write(self, rt: &impl Print) -> io::Result<()>;
+    fn at(bytes: &[u8], place: usize) -> Self;
+
+    fn put(self, place: usize, bytes: &mut [u8]);
 }
 
 impl Element for u32 {
-    fn read<R: Read>(input: &mut R) -> io::Result<Self> {
-        let mut raw = [0u8; 4];
-        let (_, ended) = fill(input, &mut raw);
-        ended?;
-        Ok(u32_at(&raw, 0))
+    const SIZE: usize = 4;
+
+    fn at(bytes: &[u8], place: usize) -> u32 {
+        u32_at(bytes, place)
     }
 
-    fn write(self, rt: &impl Print) -> io::Result<()> {
-        let mut raw = [0u8; 4];
-        put(u64::from(self), 4, 0, &mut raw);
-        rt.write_all(&raw)
+    fn put(self, place: usize, bytes: &mut [u8]) {
+        put(u64::from(self), 4, place, bytes);
     }
 }
 
 impl Element for f64 {
-    fn read<R: Read>(input: &mut R) -> io::Result<Self> {
-        let mut raw = [0u8; 8];
-        let (_, ended) = fill(input, &mut raw);
-        ended?;
-        Ok(of_bits(u64_at(&raw, 0)))
+    const SIZE: usize = 8;
+
+    fn at(bytes: &[u8], place: usize) -> f64 {
+        of_bits(u64_at(bytes, place))
     }
 
-    fn write(self, rt: &impl Print) -> io::Result<()> {
-        let mut raw = [0u8; 8];
-        put(bits_of(self), 8, 0, &mut raw);
-        rt.write_all(&raw)
+    fn put(self, place: usize, bytes: &mut [u8]) {
+        put(bits_of(self), 8, place, bytes);
     }
 }
 
-// No slice of a case is longer than 4,096.
+// No slice of a case is longer. Each lies in memory of this size, as there is no heap.
+fn capped(length: u32) -> usize
+    ensures { result ≤ 4096 }
+{
+    length.min(4096) as usize
+}
+
+// Where the input ends, the missing bytes are 0. A slice's bytes are read at once.
 fn read_slice<T: Element, R: Read>(
-    rt: &impl AllocGlobal,
     input: &mut R,
     length: u32,
-) -> io::Result<Vec<T>> {
-    let mut slice = Vec::new(rt.alloc());
-    for _ in 0..length.min(4096) {
-        slice.push(T::read(input)?)?;
-    }
-    Ok(slice)
-}
-
-fn write_slice<T: Element>(rt: &impl Print, slice: &[T]) -> io::Result<()> {
-    for &element in slice {
-        element.write(rt)?;
+    bytes: &mut [u8],
+    slice: &mut ArrayVec<T, 4096>,
+) -> io::Result<()> {
+    let n = capped(length);
+    let end = n.saturating_mul(T::SIZE).min(bytes.len());
+    let (got, ended) = fill(input, &mut bytes[..end]);
+    ended?;
+    bytes[got..end].fill(0);
+    slice.clear();
+    for k in 0..n {
+        if slice
+            .try_push(T::at(bytes, k.saturating_mul(T::SIZE)))
+            .is_err()
+        {
+            break;
+        }
     }
     Ok(())
+}
+
+// A slice's bytes are written at once.
+fn write_slice<T: Element>(rt: &impl Print, slice: &[T], bytes: &mut [u8]) -> io::Result<()> {
+    for (k, &element) in slice.iter().enumerate() {
+        element.put(k.saturating_mul(T::SIZE), bytes);
+    }
+    let end = slice.len().saturating_mul(T::SIZE).min(bytes.len());
+    rt.write_all(&bytes[..end])
 }
 
 // What a case begins with: its call, four numbers, and the lengths of its slices.
@@ -103,59 +122,88 @@ impl Head {
     }
 }
 
-// The slices of a case, which oracle/FORM.md names.
+// The slices of a case, which oracle/FORM.md names, and the bytes of the longest.
 #[derive(Drop)]
 pub struct Case {
-    pub s0: Vec<u32>,
-    pub s1: Vec<u32>,
-    pub s2: Vec<u32>,
-    pub s3: Vec<u32>,
-    pub s4: Vec<u32>,
-    pub s5: Vec<u32>,
-    pub s6: Vec<u32>,
-    pub w1: Vec<u32>,
-    pub w2: Vec<u32>,
-    pub w3: Vec<u32>,
-    pub v: Vec<f64>,
-    pub b: Vec<f64>,
-    pub o: Vec<f64>,
-    pub x: Vec<f64>,
+    pub s0: ArrayVec<u32, 4096>,
+    pub s1: ArrayVec<u32, 4096>,
+    pub s2: ArrayVec<u32, 4096>,
+    pub s3: ArrayVec<u32, 4096>,
+    pub s4: ArrayVec<u32, 4096>,
+    pub s5: ArrayVec<u32, 4096>,
+    pub s6: ArrayVec<u32, 4096>,
+    pub w1: ArrayVec<u32, 4096>,
+    pub w2: ArrayVec<u32, 4096>,
+    pub w3: ArrayVec<u32, 4096>,
+    pub v: ArrayVec<f64, 4096>,
+    pub b: ArrayVec<f64, 4096>,
+    pub o: ArrayVec<f64, 4096>,
+    pub x: ArrayVec<f64, 4096>,
+    bytes: [u8; 32768],
 }
 
 impl Case {
-    pub fn read<R: Read>(rt: &impl AllocGlobal, input: &mut R, head: &Head) -> io::Result<Case> {
-        let words = head.words.try_map(|n| read_slice(rt, input, n))?;
-        let values = head.values.try_map(|n| read_slice(rt, input, n))?;
-        let [s0, s1, s2, s3, s4, s5, s6, w1, w2, w3] = words;
-        let [v, b, o, x] = values;
-        Ok(Case {
-            s0,
-            s1,
-            s2,
-            s3,
-            s4,
-            s5,
-            s6,
-            w1,
-            w2,
-            w3,
-            v,
-            b,
-            o,
-            x,
-        })
+    pub fn new() -> Case {
+        Case {
+            s0: ArrayVec::new(),
+            s1: ArrayVec::new(),
+            s2: ArrayVec::new(),
+            s3: ArrayVec::new(),
+            s4: ArrayVec::new(),
+            s5: ArrayVec::new(),
+            s6: ArrayVec::new(),
+            w1: ArrayVec::new(),
+            w2: ArrayVec::new(),
+            w3: ArrayVec::new(),
+            v: ArrayVec::new(),
+            b: ArrayVec::new(),
+            o: ArrayVec::new(),
+            x: ArrayVec::new(),
+            bytes: [0; 32768],
+        }
     }
 
-    pub fn write(&self, rt: &impl Print) -> io::Result<()> {
+    pub fn read<R: Read>(&mut self, input: &mut R, head: &Head) -> io::Result<()> {
+        let bytes = &mut self.bytes;
+        let [s0, s1, s2, s3, s4, s5, s6, w1, w2, w3] = head.words;
+        read_slice(input, s0, bytes, &mut self.s0)?;
+        read_slice(input, s1, bytes, &mut self.s1)?;
+        read_slice(input, s2, bytes, &mut self.s2)?;
+        read_slice(input, s3, bytes, &mut self.s3)?;
+        read_slice(input, s4, bytes, &mut self.s4)?;
+        read_slice(input, s5, bytes, &mut self.s5)?;
+        read_slice(input, s6, bytes, &mut self.s6)?;
+        read_slice(input, w1, bytes, &mut self.w1)?;
+        read_slice(input, w2, bytes, &mut self.w2)?;
+        read_slice(input, w3, bytes, &mut self.w3)?;
+        let [v, b, o, x] = head.values;
+        read_slice(input, v, bytes, &mut self.v)?;
+        read_slice(input, b, bytes, &mut self.b)?;
+        read_slice(input, o, bytes, &mut self.o)?;
+        read_slice(input, x, bytes, &mut self.x)
+    }
+
+    pub fn write(
+        &mut self,
+        rt: &impl Print,
+        number: u32,
+        column: u32,
+        pivot: f64,
+    ) -> io::Result<()> {
+        let bytes = &mut self.bytes;
+        number.put(0, bytes);
+        column.put(4, bytes);
+        pivot.put(8, bytes);
+        rt.write_all(&bytes[..16])?;
         let words = [
             &self.s0, &self.s1, &self.s2, &self.s3, &self.s4, &self.s5, &self.s6, &self.w1,
             &self.w2, &self.w3,
         ];
         for slice in words {
-            write_slice(rt, slice)?;
+            write_slice(rt, slice, bytes)?;
         }
         for slice in [&self.v, &self.b, &self.o, &self.x] {
-            write_slice(rt, slice)?;
+            write_slice(rt, slice, bytes)?;
         }
         Ok(())
     }
