@@ -1,5 +1,5 @@
 // A case on standard input and output: numbers and elements one after the other, the lowest byte first.
-ghost use Rattle.std.specs.Prelude.{◌≤◌};
+ghost use Rattle.std.specs.Prelude.{◌≤◌, ◌<◌};
 
 use arrayvec::ArrayVec;
 use float_bits::{bits_of, of_bits};
@@ -8,36 +8,36 @@ use reading::fill;
 use std::io;
 use std::io::Read;
 
-// What a slice holds, at a place of its bytes: past their end they are 0 and are not written.
+// What a slice holds, in a cell of SIZE bytes.
 pub trait Element: Copy + Default + Drop {
     const SIZE: usize;
 
-    fn at(bytes: &[u8], place: usize) -> Self;
+    fn of(cell: &[u8]) -> Self;
 
-    fn put(self, place: usize, bytes: &mut [u8]);
+    fn put(self, cell: &mut [u8]);
 }
 
 impl Element for u32 {
     const SIZE: usize = 4;
 
-    fn at(bytes: &[u8], place: usize) -> u32 {
-        u32_at(bytes, place)
+    fn of(cell: &[u8]) -> u32 {
+        u32_at(cell, 0)
     }
 
-    fn put(self, place: usize, bytes: &mut [u8]) {
-        put(u64::from(self), 4, place, bytes);
+    fn put(self, cell: &mut [u8]) {
+        put(u64::from(self), 4, 0, cell);
     }
 }
 
 impl Element for f64 {
     const SIZE: usize = 8;
 
-    fn at(bytes: &[u8], place: usize) -> f64 {
-        of_bits(u64_at(bytes, place))
+    fn of(cell: &[u8]) -> f64 {
+        of_bits(u64_at(cell, 0))
     }
 
-    fn put(self, place: usize, bytes: &mut [u8]) {
-        put(bits_of(self), 8, place, bytes);
+    fn put(self, cell: &mut [u8]) {
+        put(bits_of(self), 8, 0, cell);
     }
 }
 
@@ -48,6 +48,19 @@ fn capped(length: u32) -> usize
     length.min(4096) as usize
 }
 
+// A cell is not empty, which a trait's constant does not say by itself.
+fn cell_size<T: Element>() -> usize
+    ensures { 0 < result }
+{
+    T::SIZE.max(1)
+}
+
+// The bytes of n elements, as far as there is room.
+fn part<T: Element>(n: usize, bytes: &mut [u8]) -> &mut [u8] {
+    let end = n.saturating_mul(T::SIZE).min(bytes.len());
+    &mut bytes[..end]
+}
+
 // Where the input ends, the missing bytes are 0. A slice's bytes are read at once.
 fn read_slice<T: Element, R: Read>(
     input: &mut R,
@@ -55,17 +68,13 @@ fn read_slice<T: Element, R: Read>(
     bytes: &mut [u8],
     slice: &mut ArrayVec<T, 4096>,
 ) -> io::Result<()> {
-    let n = capped(length);
-    let end = n.saturating_mul(T::SIZE).min(bytes.len());
-    let (got, ended) = fill(input, &mut bytes[..end]);
+    let bytes = part::<T>(capped(length), bytes);
+    let (got, ended) = fill(input, bytes);
     ended?;
-    bytes[got..end].fill(0);
+    bytes[got..].fill(0);
     slice.clear();
-    for k in 0..n {
-        if slice
-            .try_push(T::at(bytes, k.saturating_mul(T::SIZE)))
-            .is_err()
-        {
+    for cell in bytes.chunks_exact(cell_size::<T>()) {
+        if slice.try_push(T::of(cell)).is_err() {
             break;
         }
     }
@@ -74,11 +83,10 @@ fn read_slice<T: Element, R: Read>(
 
 // A slice's bytes are written at once.
 fn write_slice<T: Element>(rt: &impl Print, slice: &[T], bytes: &mut [u8]) -> io::Result<()> {
-    for (k, &element) in slice.iter().enumerate() {
-        element.put(k.saturating_mul(T::SIZE), bytes);
+    for (cell, &element) in bytes.chunks_exact_mut(cell_size::<T>()).zip(slice) {
+        element.put(cell);
     }
-    let end = slice.len().saturating_mul(T::SIZE).min(bytes.len());
-    rt.write_all(&bytes[..end])
+    rt.write_all(part::<T>(slice.len(), bytes))
 }
 
 // What a case begins with: its call, four numbers, and the lengths of its slices.
@@ -191,9 +199,9 @@ impl Case {
         pivot: f64,
     ) -> io::Result<()> {
         let bytes = &mut self.bytes;
-        number.put(0, bytes);
-        column.put(4, bytes);
-        pivot.put(8, bytes);
+        number.put(&mut bytes[..4]);
+        column.put(&mut bytes[4..8]);
+        pivot.put(&mut bytes[8..16]);
         rt.write_all(&bytes[..16])?;
         let words = [
             &self.s0, &self.s1, &self.s2, &self.s3, &self.s4, &self.s5, &self.s6, &self.w1,
