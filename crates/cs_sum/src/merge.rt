@@ -9,7 +9,7 @@ use crate::alike::{add_values, same_rows};
 use cs_columns::rows::row_at;
 
 // How many different rows two columns have. A merge moves two positions apart, which no `for` counts. With a match on `cmp` in place of the two
-// tests, here and in `walk`, the sum of columns with different rows took up to 60 percent longer.
+// tests, here and in `walk`, the sum of columns with different rows took 50 to 70 percent longer.
 pub fn count_rows(ai: &[u32], bi: &[u32]) -> usize
     requires { Risen 65535 ai.now bi.now }
     ensures { result ≡ length (chosen 65535 (either ai.now bi.now)) }

@@ -100,7 +100,8 @@ loop-ka-preserved c =
           (walking_first _ _ _ _ _ _ w t.if-r-s.true t.row_at-r-then-r-s.ensures)
       | else-r-s+then-s-r t ↦ rw (t.oi-is, t.ov-is, t.ka-is, t.kb-is, t.r-is, t.s-is)
           (walking_second _ _ _ _ _ _ w t.if-s-r.true t.row_at-s-then-s-r.ensures)
-      | else-r-s+else-s-r t ↦ rw (t.oi-is, t.ov-is, t.ka-is, t.kb-is, t.r-is, t.s-is) (walking_both _ _ _ _ _ _ w (omega (arith, t.if-r-s.false, t.if-s-r.false))
+      | else-r-s+else-s-r t ↦ rw (t.oi-is, t.ov-is, t.ka-is, t.kb-is, t.r-is, t.s-is)
+          (walking_both _ _ _ _ _ _ w (omega (arith, t.if-r-s.false, t.if-s-r.false))
           (elim c.if-ka-ai.branch [ then-ka-ai t ↦ inl t.if-ka-ai.true | else-ka-ai+then-kb-bi t ↦ inr t.if-kb-bi.true ])
           t.row_at-r-else-s-r.ensures t.row_at-s-else-s-r.ensures)
     ]
